@@ -11,6 +11,7 @@ use Rattle.moves.proofs.BeforeLaws.{next-low, serial-low, few-lists, proper-blo
 use Rattle.flow_laws.specs.declared.samples.Sample.{Sample}
 use Rattle.flow_laws.specs.{nextSample, useTime, askTime, sendOn, delayRows, advanceWith, advanceNext, advanceRows}
 use Rattle.flow_laws.proofs.{New.follows-done, Arrival.sampled, Arrival.used-tallying, Arrival.move-time, Asked.time-most, Asked.time-asked, Asked.time-yes, Sent.send-follows}
+use Rattle.flow_laws.proofs.New.{Follows}
 
 module _ {m : BlockModel} {tape : List (List ℕ)} {tapeBytes tables lists w tally : List ℕ} {x : Scalars} {t : Transaction} {s : State}
     {list : ℕ} (h : Before m tape tapeBytes tables lists w tally x t s (advance list)) where
@@ -22,10 +23,10 @@ module _ {m : BlockModel} {tape : List (List ℕ)} {tapeBytes tables lists w tal
   named = proper-block h
 
   there : list ≤ length (s .samples)
-  there = omega (arith, named .1)
+  there = omega (arith, named .1, h .sane .shape .sample-lists)
 
   left-cell : getD tally (944 + (list - 1)) 0 ≡ length (Moves.timesLeft s list)
-  left-cell = h .tallying .samples .left _ (omega (arith, named .0, there))
+  left-cell = h .tallying .samples .left (list - 1) (omega (arith, named .0, there, few-lists h))
 
   abbrev s₀ : State
   s₀ = setMoving none s
@@ -46,12 +47,17 @@ module _ {m : BlockModel} {tape : List (List ℕ)} {tapeBytes tables lists w tal
     q = unless (leb (s .view .clock + time) (m .rules .maxClock)) 22 0
 
     ask-is : askTime x (sample .time) ≡ q
-    ask-is = cc (sampled s (h .tallying) list (named .0) there (few-lists h) e, time-asked h time (omega (arith, time-most h list e)))
+    ask-is =
+        ap (askTime x) (sampled s (h .tallying) list (named .0) there (few-lists h) e)
+        ∙ time-asked h time (omega (arith, time-most h list e))
 
-    unspent : advanceRows tables tapeBytes w tally x (placeOf t) ≡ cond (eqb q 0) (delayRows w tally x sample (list - 1)) (rowsOf (stopped x q) w tally)
+    unspent : advanceRows tables tapeBytes w tally x (placeOf t)
+        ≡ cond (eqb q 0) (delayRows w tally x sample (list - 1)) (rowsOf (stopped x q) w tally)
     unfolding advanceRows advanceNext advanceWith
     unspent =
-        rw (list-is, (ne-eqb (getD tally (944 + (list - 1)) 0) 0 (λ z. omega (arith, left-cell, ap length e))), ask-is)
+        let n : eqb (getD tally (944 + (list - 1)) 0) 0 ≡ false =
+        ne-eqb (getD tally (944 + (list - 1)) 0) 0 (λ z. omega (arith, left-cell, ap length e)) in
+        rw (list-is, n, ask-is)
 
     abbrev t′ : Transaction
     t′ = withReturning false (withNext (suc (t .next)) t)
@@ -66,19 +72,24 @@ module _ {m : BlockModel} {tape : List (List ℕ)} {tapeBytes tables lists w tal
       delay-is : delayRows w tally x sample (list - 1) ≡ withTally (sendOn w x time′) (useTime tally (list - 1) (sample .next))
       unfolding delayRows
       delay-is =
-          cc (move-time s₀ (h .tallying) list (named .0) there (few-lists h) e x (h .counting) most)
+          ap (λ (n : ℕ). withTally (sendOn w x n) (useTime tally (list - 1) (sample .next)))
+          (move-time s₀ (h .tallying) list (named .0) there (few-lists h) e x (h .counting) most)
+
+      sent : Follows (sendOn w x time′) 0 none (Moves.toFel time′ t′ s₁)
+      sent = send-follows x s₁ (h .listing) (h .counting) (next-low h) (serial-low h) time′ (h .sane .timely .serials)
 
       delay-done : Done tapeBytes (delayRows w tally x sample (list - 1)) (bare m (advance list) t s₀)
       unfolding bare delay Moves.toFel
-      delay-done = rw (delay-is, e) (follows-done (send-follows x s₁ (h .listing) (h .counting) (next-low h) (serial-low h) time′ (h .sane .timely .serials)) refl (used-tallying s₀ (h .tallying) list (named .0) there (few-lists h) e))
+      delay-done = rw (delay-is, e) (follows-done sent refl (used-tallying s₀ (h .tallying) list (named .0) there (few-lists h) e))
 
     unspent-done : Done tapeBytes (advanceRows tables tapeBytes w tally x (placeOf t)) (bareAnswer q m (advance list) t s)
-    unspent-done = rw unspent (asked h q _ (λ z. delay-done (time-yes h time z)))
+    unspent-done = rw unspent (asked h q (delayRows w tally x sample (list - 1)) (λ z. delay-done (time-yes h time z)))
 
   pub advance-done : Done tapeBytes (advanceRows tables tapeBytes w tally x (placeOf t)) (bareBlock m (advance list) t s)
   unfolding question askAdvance
-  advance-done = go _ refl
+  advance-done = go (Moves.timesLeft s list) refl
     where
-      go : (l : List ℕ) → Moves.timesLeft s list ≡ l → Done tapeBytes (advanceRows tables tapeBytes w tally x (placeOf t)) (bareAnswer (askAdvance m l s) m (advance list) t s)
-      go [] e = rw spent (stop-done h 22)
+      go : (l : List ℕ) → Moves.timesLeft s list ≡ l
+          → Done tapeBytes (advanceRows tables tapeBytes w tally x (placeOf t)) (bareAnswer (askAdvance m l s) m (advance list) t s)
+      go [] e = rw (spent e) (stop-done h 22)
       go (time ∷ left) e = unspent-done time left e

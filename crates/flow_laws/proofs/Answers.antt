@@ -9,6 +9,7 @@ abbrev sample : ℕ → ℕ → Sample
 sample time next = record { time = time; next = next }
 
 module _ (tape : List ℕ) (at : ℕ) (r : Read) (e : numberOf at r ≡ readNumber maxNumberBytes fiveGroups (drop at tape)) where
+  -- what cannot be read counts as time 0 at the same place; a tape that was accepted has no such number
   pub sample-refused : r ≡ Unread → record { time = 0; next = at } ≡ sampleAt tape at
   unfolding sampleAt sampleOf numberOf
   sample-refused q = rw (← e, q)

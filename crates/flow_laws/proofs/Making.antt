@@ -4,6 +4,7 @@ use Rattle.rows_laws.specs.All.{place, rel, fel, free, load, schedule, put, fir
 use Rattle.rows_laws.proofs.{Occurs.same-refl, Occurs.occurs-cons, Structure.row-of, Data.transaction-kept, Showing.update-same, Showing.update-other, Ordering.shows-ext, Put.put-keeps, Laws.Fresh, Laws.shows-put, Laws.shows-schedule, Scheduling.schedule-keeps, Steady.Around, Steady.around-loose, Steady.kept-around, Making.Written}
 use Rattle.rows_laws.proofs.Take.{First, none, some, first-of, take-keeps, take-loose, take-free-shown}
 use Rattle.state.specs.All.{listsOf, Moving, Listing}
+use Rattle.rows_laws.specs.Order.{outranks, sooner}
 
 -- who moves is another row
 mover-kept : (w w′ : List ℕ) (k moving : ℕ) (o : Option Transaction) → moving ≢ k → Around w w′ k → Moving w moving o → Moving w′ moving o
@@ -17,6 +18,7 @@ pub record Making (w : List ℕ) (k moving : ℕ) (o : Option Transaction) (s : 
   pub row : Loose w k
   pub mover : Moving w moving o
   pub apart : moving ≢ k
+  -- a made row comes from the free ones: free rows and living transactions are all rows
   pub spare : suc (length (shows .rows free)) + (s .made - s .ended) ≡ 1024
 
 -- ---- The first free row
@@ -29,19 +31,22 @@ module _ (w : List ℕ) (moving : ℕ) (o : Option Transaction) (s : State) (h :
   k = first w free
 
   firsts : First w free (L free)
-  firsts = first-of w free _ (λ e. omega arith) (h .shows .shown .holds .listed free (omega arith))
+  firsts = first-of w free (L free) (λ e. omega arith) (h .shows .shown .holds .listed free (omega arith))
 
   pub row-there : k < 1024
   row-there = go firsts
     where
       go : First w free (L free) → first w free < 1024
-      go (none e n) = absurd (omega (arith, ap length e))
+      go (none e n) = absurd (omega (arith, h .spare, ap length e))
       go (some m e n) = n
 
   apart-from : (m : List ℕ) → L free ≡ k ∷ m → (o′ : Option Transaction) → Moving w moving o′ → moving ≢ k
   apart-from m e none q = λ f. omega (arith, row-there)
   apart-from m e (some t) q = λ f.
-      omega (arith, q .0 .off, ap (λ (x : ℕ). load w (place x)) f, (row-of w free [] (k ∷ m) (rw e at (h .shows .shown .holds .listed free (omega arith))) k (omega (arith, occurs-cons k k m, same-refl k k refl)) .1))
+      let at : load w (place k) ≡ free =
+      row-of w free [] (k ∷ m) (rw e at (h .shows .shown .holds .listed free (omega arith))) k
+      (omega (arith, occurs-cons k k m, same-refl k k refl)) .1 in
+      omega (arith, q .0 .off, ap (λ (x : ℕ). load w (place x)) f, at)
 
   pub made : Making (takeFirst w free) k moving o s
   made = go firsts
@@ -49,21 +54,33 @@ module _ (w : List ℕ) (moving : ℕ) (o : Option Transaction) (s : State) (h :
       go : First w free (L free) → Making (takeFirst w free) (first w free) moving o s
       go (none e n) = absurd (omega (arith, row-there))
       go (some m e n) =
-          let d = apart-from m e o (h .mover) in
+          let d : moving ≢ first w free = apart-from m e o (h .mover) in
           record {
-            shows = record { rows = update free m L; shown = take-free-shown w L _ _ (h .shows .shown) free (omega arith) (λ e. omega arith) m e n refl; ordered = h .shows .ordered };
+            shows = record {
+              rows = update free m L;
+              shown = take-free-shown w L (listsOf s) (s .fel) (h .shows .shown) free (omega arith) (λ e. omega arith) m e n refl;
+              ordered = h .shows .ordered;
+            };
             row = take-loose w L (h .shows .shown .holds) free (omega arith) (λ e. omega arith) m e n;
-            mover = mover-kept w _ _ moving o d (kept-around w _ _ (take-keeps w L (h .shows .shown .holds) free (omega arith) (λ e. omega arith) m e n)) (h .mover);
+            mover =
+                mover-kept w (takeFirst w free) (first w free) moving o d
+                (kept-around w (takeFirst w free) (first w free)
+                (take-keeps w L (h .shows .shown .holds) free (omega arith) (λ e. omega arith) m e n)) (h .mover);
             apart = d;
-            spare = rw (update-same free m L free refl) (omega (arith, ap length e));
+            spare = rw (update-same free m L free refl) (omega (arith, h .spare, ap length e));
           }
 
 -- ---- Its data
 
-pub making-written : (w w′ : List ℕ) (k moving : ℕ) (o : Option Transaction) (s : State) → Written w w′ k → Making w k moving o s → Making w′ k moving o s
+pub making-written : (w w′ : List ℕ) (k moving : ℕ) (o : Option Transaction) (s : State) → Written w w′ k → Making w k moving o s
+    → Making w′ k moving o s
 making-written w w′ k moving o s a h =
     record {
-      shows = record { rows = h .shows .rows; shown = a .shown _ _ _ (h .row) (h .shows .shown); ordered = h .shows .ordered };
+      shows = record {
+        rows = h .shows .rows;
+        shown = a .shown (h .shows .rows) (listsOf s) (s .fel) (h .row) (h .shows .shown);
+        ordered = h .shows .ordered;
+      };
       row = a .loose (h .row);
       mover = mover-kept w w′ k moving o (h .apart) (a .around) (h .mover);
       apart = h .apart;
@@ -72,25 +89,40 @@ making-written w w′ k moving o s a h =
 
 -- ---- Its list
 
-module _ (w : List ℕ) (k moving : ℕ) (o : Option Transaction) (s s′ : State) (h : Making w k moving o s) (living : s′ .made - s′ .ended ≡ suc (s .made - s .ended)) where
-  pub making-fel : Fresh (transactionAt w k) (s .fel) → ((q : ℕ) → q < 770 → listsOf s q ≡ listsOf s′ q) → insert earlier (eventAt w k) (s .fel) ≡ s′ .fel → Listing (schedule w k) moving o s′
+module _ (w : List ℕ) (k moving : ℕ) (o : Option Transaction) (s s′ : State) (h : Making w k moving o s)
+    (living : s′ .made - s′ .ended ≡ suc (s .made - s .ended)) where
+  -- the made row goes to the FEL
+  pub making-fel : Fresh (transactionAt w k) (s .fel) → ((q : ℕ) → q < 770 → listsOf s q ≡ listsOf s′ q)
+      → insert earlier (eventAt w k) (s .fel) ≡ s′ .fel
+      → Listing (schedule w k) moving o s′
   making-fel fresh lists future =
       record {
         shows =
-            shows-ext _ _ _ _ _ lists future
-            (shows-schedule w _ _ (h .shows) k (h .row) fresh);
-        mover = mover-kept w _ k moving o (h .apart) (kept-around w _ k (schedule-keeps w _ (h .shows .shown .holds) k (h .row))) (h .mover);
+            shows-ext (schedule w k) (listsOf s) (listsOf s′) (insert earlier (eventAt w k) (s .fel)) (s′ .fel) lists future
+            (shows-schedule w (listsOf s) (s .fel) (h .shows) k (h .row) fresh);
+        mover =
+            mover-kept w (schedule w k) k moving o (h .apart)
+            (kept-around w (schedule w k) k (schedule-keeps w (h .shows .rows) (h .shows .shown .holds) k (h .row))) (h .mover);
         spare =
-            rw (update-other fel _ _ free (λ e. omega arith), living) (omega arith);
+            rw (update-other fel (insert (sooner w) k (h .shows .rows fel)) (h .shows .rows) free (λ e. omega arith), living)
+            (omega (arith, h .spare));
       }
 
-  pub making-rel : ((q : ℕ) → q < 770 → update rel (insert precedes (transactionAt w k) (listsOf s rel)) (listsOf s) q ≡ listsOf s′ q) → s .fel ≡ s′ .fel → Listing (put w rel k) moving o s′
+  -- the made row goes to REL
+  pub making-rel : ((q : ℕ) → q < 770 → update rel (insert precedes (transactionAt w k) (listsOf s rel)) (listsOf s) q ≡ listsOf s′ q)
+      → s .fel ≡ s′ .fel
+      → Listing (put w rel k) moving o s′
   making-rel lists future =
       record {
         shows =
-            shows-ext _ _ _ _ _ lists future
-            (shows-put w _ _ (h .shows) k (h .row) rel (omega arith) (h .shows .ordered .lists rel (omega arith)));
-        mover = mover-kept w _ k moving o (h .apart) (kept-around w _ k (put-keeps w _ (h .shows .shown .holds) rel k (omega arith) (λ e. omega arith) (h .row))) (h .mover);
+            shows-ext (put w rel k) (update rel (insert precedes (transactionAt w k) (listsOf s rel)) (listsOf s)) (listsOf s′) (s .fel)
+            (s′ .fel) lists future
+            (shows-put w (listsOf s) (s .fel) (h .shows) k (h .row) rel (omega arith) (h .shows .ordered .lists rel (omega arith)));
+        mover =
+            mover-kept w (put w rel k) k moving o (h .apart)
+            (kept-around w (put w rel k) k
+            (put-keeps w (h .shows .rows) (h .shows .shown .holds) rel k (omega arith) (λ e. omega arith) (h .row))) (h .mover);
         spare =
-            rw (update-other rel _ _ free (λ e. omega arith), living) (omega arith);
+            rw (update-other rel (insert (outranks w) k (h .shows .rows rel)) (h .shows .rows) free (λ e. omega arith), living)
+            (omega (arith, h .spare));
       }

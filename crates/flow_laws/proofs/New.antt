@@ -12,6 +12,9 @@ use Rattle.moves.specs.Motion.{Moved, moved, withTally, next32}
 use Rattle.moves.proofs.MotionLaws.{next32-suc}
 use Rattle.flow_laws.specs.{toFuture, toReady, bornAt, born, copyTo, copyOne}
 use Rattle.flow_laws.proofs.Making.{Making, row-there, made, making-written, making-fel, making-rel}
+use mathlib.Core.Path.{sym, subst}
+use Rattle.machine.specs.Transaction.{earlier}
+use Rattle.state.specs.Stands.{Stands}
 
 -- what scalars and rows say of a state, with the tally apart
 pub record Follows (m : Moved) (n : ℕ) (o : Option Transaction) (s : State) : Type 0 where
@@ -20,12 +23,16 @@ pub record Follows (m : Moved) (n : ℕ) (o : Option Transaction) (s : State) : 
   pub note : m .scalars .note ≡ n
 
 -- with a tally that fits, where it entered
-pub follows-done : {tapeBytes tally : List ℕ} {m : Moved} {o : Option Transaction} {s : State} → Follows m 0 o s → s .moving ≡ o → Tallying tapeBytes tally s → Done tapeBytes (withTally m tally) (entering s)
+pub follows-done : {tapeBytes tally : List ℕ} {m : Moved} {o : Option Transaction} {s : State} → Follows m 0 o s → s .moving ≡ o
+    → Tallying tapeBytes tally s
+    → Done tapeBytes (withTally m tally) (entering s)
 unfolding rowsOf noteOf
 follows-done {tapeBytes} {tally} {m} {s = s} h e tallying =
     record {
-      stands = rw e (record { listing = h .listing; tallying = tallying; counting = h .counting });
-      note = cc (h .note);
+      stands =
+          subst (λ (o : Option Transaction). Stands tapeBytes (withTally m tally) o s) (sym e)
+          (record { listing = h .listing; tallying = tallying; counting = h .counting });
+      note = ap noteOf (h .note);
     }
 
 -- one more living, and serials and numbers to come
@@ -35,24 +42,25 @@ pub record Roomy (s : State) : Type 0 where
   pub serials : s .serial < 4294967295
   pub numbers : s .made < 4294967295
 
-module _ {w : List ℕ} (x : Scalars) {o : Option Transaction} {s : State} (listing : Listing w (x .moving) o s) (counting : Counting x s) (roomy : Roomy s) where
+module _ {w : List ℕ} (x : Scalars) {o : Option Transaction} {s : State} (listing : Listing w (x .moving) o s)
+    (counting : Counting x s) (roomy : Roomy s) where
   abbrev k : ℕ
   k = first w free
 
   hk : k < 1024
-  hk = row-there w _ o s listing (roomy .room)
+  hk = row-there w (x .moving) o s listing (roomy .room)
 
   abbrev w₀ : List ℕ
   w₀ = takeFirst w free
 
   g₀ : Making w₀ k (x .moving) o s
-  g₀ = made w _ o s listing (roomy .room)
+  g₀ = made w (x .moving) o s listing (roomy .room)
 
   number-is : next32 (x .made) ≡ suc (s .made)
-  number-is = cc (counting .made, next32-suc (s .made) (roomy .numbers))
+  number-is = ap next32 (counting .made) ∙ next32-suc (s .made) (roomy .numbers)
 
   serial-is : next32 (x .serial) ≡ suc (s .serial)
-  serial-is = ap next32 (counting .serial) ∙ next32-suc _ (roomy .serials)
+  serial-is = ap next32 (counting .serial) ∙ next32-suc (s .serial) (roomy .serials)
 
   abbrev scalars′ : Scalars
   scalars′ = putSerial (suc (s .serial)) (putMade (suc (s .made)) x)
@@ -76,20 +84,26 @@ module _ {w : List ℕ} (x : Scalars) {o : Option Transaction} {s : State} (list
     unfolding born bornAt toFuture
     born-is =
         let e : p % 128 ≡ p = omega arith in
-        rw (lt-ltb _ 1024 hk, number-is, serial-is, e)
+        rw (lt-ltb (first w free) 1024 hk, number-is, serial-is, e)
 
     g₁ : Making w₁ k (x .moving) o s
-    g₁ = making-written w₀ w₁ k _ o s (newborn-written w₀ k hk _ p block) g₀
+    g₁ = making-written w₀ w₁ k (x .moving) o s (newborn-written w₀ k hk (suc (s .made)) p block) g₀
 
     g₂ : Making w₂ k (x .moving) o s
-    g₂ = making-written w₁ w₂ k _ o s (written w₁ 7 k _ (omega arith) hk) g₁
+    g₂ = making-written w₁ w₂ k (x .moving) o s (written w₁ 7 k (suc (s .serial)) (omega arith) hk) g₁
+
+    g₃ : Making w₃ k (x .moving) o s
+    g₃ = making-written w₂ w₃ k (x .moving) o s (time-written w₂ k hk time) g₂
 
     abbrev event : Transaction → Event
     event u = record { time = time; who = withStamp time u }
 
     event-is : eventAt w₃ k ≡ event (withSerial (suc (s .serial)) t)
     event-is =
-        cc (write-time w₂ k (g₂ .shows .shown .holds .room) hk time, write-serial w₁ k (g₁ .shows .shown .holds .room) hk (suc (s .serial)), newborn-is w₀ k (g₀ .shows .shown .holds .room) hk (suc (s .made)) p block)
+        write-time w₂ k (g₂ .shows .shown .holds .room) hk time
+        ∙ ap event (write-serial w₁ k (g₁ .shows .shown .holds .room) hk (suc (s .serial)))
+        ∙ ap (λ (u : Transaction). event (withSerial (suc (s .serial)) u))
+        (newborn-is w₀ k (g₀ .shows .shown .holds .room) hk (suc (s .made)) p block)
 
     serial-given : transactionAt w₃ k .serial ≡ suc (s .serial)
     unfolding eventAt
@@ -98,14 +112,23 @@ module _ {w : List ℕ} (x : Scalars) {o : Option Transaction} {s : State} (list
     abbrev later : State
     later = toFel time t (setMade (suc (s .made)) s)
 
+    on-fel : Given s → Listing (schedule w₃ k) (x .moving) o later
+    unfolding toFel
+    on-fel given =
+        making-fel w₃ k (x .moving) o s later g₃ (omega (arith, roomy .order))
+        (fresh-given (transactionAt w₃ k) (s .serial) (s .fel) serial-given given) (λ q hq. refl)
+        (ap (λ (e : Event). insert earlier e (s .fel)) event-is)
+
     pub born-follows : Given s → Follows (born w x time p block) (x .note) o later
     unfolding moved toFel
     born-follows given =
-        rw born-is (record { listing = making-fel w₃ k _ o s later (making-written w₂ w₃ k _ o s (time-written w₂ k hk time) g₂) (omega arith) (fresh-given (transactionAt w₃ k) _ _ serial-given given) (λ q hq. refl) (cc event-is); counting = renumber counting refl refl (counting .ended); note = refl })
+        subst (λ (m : Moved). Follows m (x .note) o later) (sym born-is)
+        (record { listing = on-fel given; counting = renumber counting refl refl (counting .ended); note = refl })
 
 -- ---- On REL
 
-module _ {w : List ℕ} (x : Scalars) {t : Transaction} {s : State} (listing : Listing w (x .moving) (some t) s) (counting : Counting x s) (roomy : Roomy s) (target : ℕ) where
+module _ {w : List ℕ} (x : Scalars) {t : Transaction} {s : State} (listing : Listing w (x .moving) (some t) s)
+    (counting : Counting x s) (roomy : Roomy s) (target : ℕ) where
   abbrev j : ℕ
   j = first w free
 
@@ -130,15 +153,21 @@ module _ {w : List ℕ} (x : Scalars) {t : Transaction} {s : State} (listing : L
   copy-one-is : copyOne w x target ≡ moved y (put v₂ rel j)
   unfolding copyOne copyTo toReady
   copy-one-is =
-      rw (lt-ltb _ 1024 hj, number-is x listing counting roomy, serial-is x listing counting roomy)
+      rw (lt-ltb (first w free) 1024 hj, number-is x listing counting roomy, serial-is x listing counting roomy)
 
   f₁ : Making v₁ j (x .moving) (some t) s
   f₁ =
-      making-written v₀ v₁ j _ _ s (copied-written v₀ j hj _ _ target) f₀
+      making-written v₀ v₁ j (x .moving) (some t) s (copied-written v₀ j hj (x .moving) (suc (s .made)) target) f₀
+
+  f₂ : Making v₂ j (x .moving) (some t) s
+  f₂ = making-written v₁ v₂ j (x .moving) (some t) s (written v₁ 7 j (suc (s .serial)) (omega arith) hj) f₁
 
   copied : transactionAt v₂ j ≡ withSerial (suc (s .serial)) (copyOf t (suc (s .made)) target)
   copied =
-      cc (write-serial v₁ j (f₁ .shows .shown .holds .room) hj (suc (s .serial)), copy-is v₀ (x .moving) j (f₀ .shows .shown .holds .room) (f₀ .mover .0 .row) hj (f₀ .apart) (suc (s .made)) target, f₀ .mover .1)
+      write-serial v₁ j (f₁ .shows .shown .holds .room) hj (suc (s .serial))
+      ∙ ap (withSerial (suc (s .serial)))
+      (copy-is v₀ (x .moving) j (f₀ .shows .shown .holds .room) (f₀ .mover .0 .row) hj (f₀ .apart) (suc (s .made)) target)
+      ∙ ap (λ (u : Transaction). withSerial (suc (s .serial)) (copyOf u (suc (s .made)) target)) (f₀ .mover .1)
 
   abbrev after : State
   after = toRel (copyOf t (suc (s .made)) target) (setMade (suc (s .made)) s)
@@ -146,9 +175,14 @@ module _ {w : List ℕ} (x : Scalars) {t : Transaction} {s : State} (listing : L
   lists : (q : ℕ) → q < 770 → update rel (insert precedes (transactionAt v₂ j) (listsOf s rel)) (listsOf s) q ≡ listsOf after q
   unfolding toRel listsIn
   lists q hq =
-      rw copied (lists-set-rel s _ q hq)
+      rw copied (lists-set-rel s (insert precedes (withSerial (suc (s .serial)) (copyOf t (suc (s .made)) target)) (s .rel)) q hq)
+
+  on-rel : Listing (put v₂ rel j) (x .moving) (some t) after
+  unfolding toRel
+  on-rel = making-rel v₂ j (x .moving) (some t) s after f₂ (omega (arith, roomy .order)) lists refl
 
   pub copy-follows : Follows (copyOne w x target) (x .note) (some t) after
   unfolding moved toRel
   copy-follows =
-      rw copy-one-is (record { listing = making-rel v₂ j _ _ s after (making-written v₁ v₂ j _ _ s (written v₁ 7 j _ (omega arith) hj) f₁) (omega arith) lists refl; counting = renumber counting refl refl (counting .ended); note = refl })
+      subst (λ (m : Moved). Follows m (x .note) (some t) after) (sym copy-one-is)
+      (record { listing = on-rel; counting = renumber counting refl refl (counting .ended); note = refl })

@@ -11,8 +11,11 @@ use Rattle.moves.specs.Motion.{Moved, moved, next32, goTo}
 use Rattle.moves.proofs.MotionLaws.{next32-suc, go-to-listing, go-on-is}
 use Rattle.flow_laws.specs.{toFuture, toReady, parked, sendOn, rankOn}
 use Rattle.flow_laws.proofs.New.{Follows}
+use Rattle.machine.specs.Transaction.{precedes, earlier}
+use Rattle.machine.specs.Lists.{insert}
 
-module _ {w : List ℕ} (x : Scalars) {t : Transaction} (s : State) (listing : Listing w (x .moving) (some t) s) (counting : Counting x s) (next-low : t .next < 4294967295) (serials : s .serial < 4294967295) where
+module _ {w : List ℕ} (x : Scalars) {t : Transaction} (s : State) (listing : Listing w (x .moving) (some t) s)
+    (counting : Counting x s) (next-low : t .next < 4294967295) (serials : s .serial < 4294967295) where
   abbrev k : ℕ
   k = x .moving
 
@@ -23,7 +26,7 @@ module _ {w : List ℕ} (x : Scalars) {t : Transaction} (s : State) (listing : L
   n = suc (s .serial)
 
   serial-is : next32 (x .serial) ≡ n
-  serial-is = ap next32 (counting .serial) ∙ next32-suc _ serials
+  serial-is = ap next32 (counting .serial) ∙ next32-suc (s .serial) serials
 
   abbrev t′ : Transaction
   t′ = withReturning false (withNext (suc (t .next)) t)
@@ -33,7 +36,7 @@ module _ {w : List ℕ} (x : Scalars) {t : Transaction} (s : State) (listing : L
 
   g₁ : Listing w₁ k (some t′) s
   unfolding goTo moved
-  g₁ = go-to-listing x listing _
+  g₁ = go-to-listing x listing (suc (t .next))
 
   abbrev scalars′ : Scalars
   scalars′ = putMoving 1024 (putSerial n (goTo w x (suc (t .next)) .scalars))
@@ -54,20 +57,25 @@ module _ {w : List ℕ} (x : Scalars) {t : Transaction} (s : State) (listing : L
     g₂ : Listing w₂ k (some (withSerial n t′)) s
     g₂ =
         listing-write g₁ 7 n (omega arith)
-        (cc (write-serial w₁ k (g₁ .shows .shown .holds .room) hk n, g₁ .mover .1))
+        (write-serial w₁ k (g₁ .shows .shown .holds .room) hk n ∙ ap (withSerial n) (g₁ .mover .1))
 
     abbrev event : Transaction → Event
     event u = record { time = time; who = withStamp time u }
 
     event-is : eventAt w₃ k ≡ event (withSerial n t′)
-    event-is = cc (write-time w₂ k (g₂ .shows .shown .holds .room) hk time, g₂ .mover .1)
+    event-is = write-time w₂ k (g₂ .shows .shown .holds .room) hk time ∙ ap event (g₂ .mover .1)
+
+    g₃ : Listing w₃ k (some (withStamp time (withSerial n t′))) s
+    g₃ = listing-time g₂ time
 
     pub send-follows : Given s → Follows (sendOn w x time) 0 none (toFel time t′ s)
     unfolding goTo moved toFel
     send-follows given =
         subst (λ (m : Moved). Follows m 0 none (toFel time t′ s)) (sym send-is)
         (record {
-          listing = listing-schedule (listing-time g₂ time) (fresh-given (withStamp time (withSerial n t′)) _ _ refl given) (cc event-is);
+          listing =
+              listing-schedule g₃ (fresh-given (withStamp time (withSerial n t′)) (s .serial) (s .fel) refl given)
+              (ap (λ (e : Event). insert earlier e (s .fel)) event-is);
           counting = renumber counting refl (counting .made) (counting .ended);
           note = refl;
         })
@@ -92,16 +100,22 @@ module _ {w : List ℕ} (x : Scalars) {t : Transaction} (s : State) (listing : L
 
     h₂ : Listing v₂ k (some u) s
     h₂ =
-        listing-write g₁ 1 _ (omega arith)
-        (cc (write-priority w₁ k (g₁ .shows .shown .holds .room) hk p, g₁ .mover .1))
+        listing-write g₁ 1 (p * 2) (omega arith)
+        (write-priority w₁ k (g₁ .shows .shown .holds .room) hk p
+        ∙ ap (λ (y : Transaction). withReturning false (withPriority p y)) (g₁ .mover .1))
+
+    h₃ : Listing v₃ k (some (withSerial n u)) s
+    h₃ =
+        listing-write h₂ 7 n (omega arith)
+        (write-serial v₂ k (h₂ .shows .shown .holds .room) hk n ∙ ap (withSerial n) (h₂ .mover .1))
 
     pub rank-follows : Follows (rankOn w x p) 0 none (toRel u s)
     unfolding goTo moved toRel listsIn
     rank-follows =
         subst (λ (m : Moved). Follows m 0 none (toRel u s)) (sym rank-is)
         (record {
-          listing = listing-put (listing-write h₂ 7 n (omega arith)
-              (cc (write-serial v₂ k (h₂ .shows .shown .holds .room) hk n, h₂ .mover .1))) rel (omega arith) (omega arith) (λ q hq. lists-set-rel s _ q hq);
+          listing =
+              listing-put h₃ rel (omega arith) (omega arith) (λ q hq. lists-set-rel s (insert precedes (withSerial n u) (s .rel)) q hq);
           counting = renumber counting refl (counting .made) (counting .ended);
           note = refl;
         })

@@ -13,6 +13,7 @@ use Rattle.flow_laws.specs.{copiesOf, splitOn, splitRows}
 use Rattle.flow_laws.proofs as our
 use our.New.{Follows, follows-done, Roomy, copy-follows}
 use our.Asked.{room-asked, room-yes}
+use Rattle.flow_laws.specs.Sending.{copyOne}
 
 -- ---- Copies
 
@@ -30,40 +31,43 @@ room-less : (n target : ℕ) (t : Transaction) (s : State) → Room (suc n) s �
 unfolding Moves.toRel
 room-less n target t s h =
     record {
-      living = omega arith;
-      order = omega arith;
-      serials = omega arith;
-      numbers = omega arith;
+      living = omega (arith, h .living, h .order);
+      order = omega (arith, h .order);
+      serials = omega (arith, h .serials);
+      numbers = omega (arith, h .numbers);
     }
 
 roomy : (n : ℕ) (s : State) → Room (suc n) s → Roomy s
 roomy n s h =
     record {
-      room = omega arith;
+      room = omega (arith, h .living);
       order = h .order;
-      serials = omega arith;
-      numbers = omega arith;
+      serials = omega (arith, h .serials);
+      numbers = omega (arith, h .numbers);
     }
 
 module _ (target : ℕ) (t : Transaction) where
-  copies-follow : (n : ℕ) {w : List ℕ} (x : Scalars) {s : State} → Listing w (x .moving) (some t) s → Counting x s → Room n s → Follows (copiesOf n w x target) (x .note) (some t) (Moves.copies n target t s)
+  copies-follow : (n : ℕ) {w : List ℕ} (x : Scalars) {s : State} → Listing w (x .moving) (some t) s → Counting x s → Room n s
+      → Follows (copiesOf n w x target) (x .note) (some t) (Moves.copies n target t s)
   unfolding copiesOf Moves.copies moved
   copies-follow zero x listing counting room = record { listing = listing; counting = counting; note = refl }
   copies-follow (suc n) {w} x {s} listing counting room =
-      let one = copy-follows x listing counting (roomy n s room) target in
-      let more = copies-follow n _ (one .listing) (one .counting) (room-less n target t s room) in
+      let one : Follows (copyOne w x target) (x .note) (some t) (oneMore target t s) =
+      copy-follows x listing counting (roomy n s room) target in
+      let more = copies-follow n (copyOne w x target .scalars) (one .listing) (one .counting) (room-less n target t s room) in
       record { listing = more .listing; counting = more .counting; note = more .note ∙ one .note }
 
-  copies-tally : {tapeBytes tally : List ℕ} (n : ℕ) (s : State) → Tallying tapeBytes tally s → Tallying tapeBytes tally (Moves.copies n target t s)
+  copies-tally : {tapeBytes tally : List ℕ} (n : ℕ) (s : State) → Tallying tapeBytes tally s
+      → Tallying tapeBytes tally (Moves.copies n target t s)
   unfolding Moves.copies Moves.toRel
   copies-tally zero s h = h
-  copies-tally (suc n) s h = copies-tally n _ h
+  copies-tally (suc n) s h = copies-tally n (oneMore target t s) h
 
   -- where the transaction stands does not matter to its copies
   copies-on : (block n : ℕ) (s : State) → Moves.copies n target (withReturning false (withNext block t)) s ≡ Moves.copies n target t s
   unfolding Moves.copies
   copies-on block zero s = refl
-  copies-on block (suc n) s = copies-on block n _
+  copies-on block (suc n) s = copies-on block n (oneMore target t s)
 
 -- ---- The block
 
@@ -105,21 +109,23 @@ module _ {m : BlockModel} {tape : List (List ℕ)} {tapeBytes tables lists w tal
   module _ (yes : q ≡ 0) where
     follows : Follows (copiesOf n w′ x′ target) (x′ .note) (some t′) after
     follows =
-        subst (λ (z : State). Follows (copiesOf n w′ x′ target) (x′ .note) (some t′) z) (copies-on target t _ n s₀)
-        (copies-follow target t′ n x′ (go-to-listing x (h .listing) _) (go-to-counting w x _ s₀ (h .counting))
+        subst (λ (z : State). Follows (copiesOf n w′ x′ target) (x′ .note) (some t′) z) (copies-on target t (suc (t .next)) n s₀)
+        (copies-follow target t′ n x′ (go-to-listing x (h .listing) (suc (t .next))) (go-to-counting w x (suc (t .next)) s₀ (h .counting))
         (record {
           living = room-yes s n yes;
           order = h .sane .ended;
-          serials = omega (arith, named .0 .1);
-          numbers = omega (arith, h .sane .made, named .0 .1);
+          serials = omega (arith, h .sane .serials, named .0 .1);
+          numbers = omega (arith, h .sane .serials, h .sane .made, named .0 .1);
         }))
 
     copied : Done tapeBytes (withTally (splitOn w x n target) tally) (bare m (split n target) t s₀)
     unfolding bare Moves.moveTo
     copied =
         rw split-is
-        (follows-done (record { listing = follows .listing; counting = follows .counting; note = follows .note ∙ (unfold goTo moved in refl) }) refl (copies-tally target t n s₀ (h .tallying)))
+        (follows-done
+        (record { listing = follows .listing; counting = follows .counting; note = follows .note ∙ (unfold goTo moved in refl) }) refl
+        (copies-tally target t n s₀ (h .tallying)))
 
   pub split-done : Done tapeBytes (withTally (splitRows tables w x (placeOf t)) tally) (bareBlock m (split n target) t s)
   unfolding splitRows question
-  split-done = rw (count-is, target-is, room-asked h n (omega (arith, named .0 .1))) (asked-moved h q _ copied)
+  split-done = rw (count-is, target-is, room-asked h n (omega (arith, named .0 .1))) (asked-moved h q (splitOn w x n target) copied)

@@ -9,10 +9,16 @@ use Rattle.moves.proofs.{Before.placeOf, Before.bareBlock, Before.Before, Befor
 use Rattle.moves.specs.Motion.{moved, withTally, next32}
 use Rattle.flow_laws.specs.{endOne, terminateRows}
 use Rattle.flow_laws.proofs.Asked.{holding-asked}
+use Prim.Native.Nat.{suc}
+use mathlib.Core.Bool.{cond}
+use lib.Dec.{leb}
+use Rattle.machine.specs.Execute.{question}
+use Rattle.state.specs.Stands.{Listing}
 
 -- ---- The row of the transaction is free
 
-module _ {w : List ℕ} {k : ℕ} {t : Transaction} {lists : ℕ → List Transaction} {fel : List Event} {living : ℕ} (h : Listed w k (some t) lists fel living) where
+module _ {w : List ℕ} {k : ℕ} {t : Transaction} {lists : ℕ → List Transaction} {fel : List Event} {living : ℕ}
+    (h : Listed w k (some t) lists fel living) where
   abbrev L : ℕ → List ℕ
   L = h .shows .rows
 
@@ -23,9 +29,14 @@ module _ {w : List ℕ} {k : ℕ} {t : Transaction} {lists : ℕ → List Transa
   pub free-listing : Listed (freeRow w k) 1024 none lists fel (living - 1)
   free-listing =
       record {
-        shows = record { rows = update free _ L; shown = freed; ordered = h .shows .ordered };
+        shows = record { rows = update free (k ∷ L free) L; shown = freed; ordered = h .shows .ordered };
         mover = refl;
-        spare = omega (arith, h .spare, short _ free _ (rw update-same at (freed .holds .listed free (omega arith))));
+        spare = omega (
+          arith,
+          h .spare,
+          short (freeRow w k) free (k ∷ L free)
+              (rw (update-same free (k ∷ L free) L free refl) at (freed .holds .listed free (omega arith))),
+        );
       }
 
 module _ {m : BlockModel} {tape : List (List ℕ)} {tapeBytes tables lists w tally : List ℕ} {x : Scalars} {t : Transaction} {s : State}
@@ -40,22 +51,31 @@ module _ {m : BlockModel} {tape : List (List ℕ)} {tapeBytes tables lists w tal
   counted : Counting (endOne x a) (endsOne a s₀)
   unfolding endOne endsOne
   counted =
-      let c = h .counting .counter in
+      let c : x .counter ≡ s .counter = h .counting .counter in
       record {
         clock = h .counting .clock;
-        counter = cc c;
+        counter = ap (λ (n : ℕ). n - a) c;
         serial = h .counting .serial;
         made = h .counting .made;
-        ended = ap next32 (h .counting .ended) ∙ next32-suc _ (omega arith);
+        ended = ap next32 (h .counting .ended) ∙ next32-suc (s .ended) (omega (arith, h .sane .ended, h .sane .made, h .sane .serials));
         turns = h .counting .turns;
         used = h .counting .used;
-        end = cc c;
+        end = ap (λ (n : ℕ). cond (leb n a) 2 0) c;
       }
+
+  freed-listing : Listing (freeRow w (x .moving)) 1024 none (endsOne a s₀)
+  unfolding endsOne
+  freed-listing =
+      let one : s .made - s .ended - 1 ≡ s .made - suc (s .ended) = omega arith in
+      subst (Listed (freeRow w (x .moving)) 1024 none (listsOf s₀) (s .fel)) one (free-listing (h .listing))
 
   ended : Done tapeBytes (withTally (moved (endOne x a) (freeRow w (x .moving))) tally) (entering (endsOne a s₀))
   unfolding endOne endsOne moved rowsOf noteOf
-  ended = record { stands = record { listing = subst (Listed (freeRow w (x .moving)) 1024 none (listsOf s₀) (s .fel)) (omega arith) (free-listing (h .listing)); tallying = h .tallying; counting = counted }; note = refl }
+  ended = record { stands = record { listing = freed-listing; tallying = h .tallying; counting = counted }; note = refl }
 
-  pub terminate-done : Done tapeBytes (withTally (terminateRows tables (m .facilities) w tally x (placeOf t)) tally) (bareBlock m (terminate a) t s)
+  pub terminate-done : Done tapeBytes (withTally (terminateRows tables (m .facilities) w tally x (placeOf t)) tally)
+      (bareBlock m (terminate a) t s)
   unfolding terminateRows bare
-  terminate-done = rw (operand-is, number-read (h .listing), holding-asked h a) (asked-moved h _ _ (λ e. ended))
+  terminate-done =
+      rw (operand-is, number-read (h .listing), holding-asked h a)
+      (asked-moved h (question m (terminate a) t s) (moved (endOne x a) (freeRow w (x .moving))) (λ e. ended))

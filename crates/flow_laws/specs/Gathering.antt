@@ -1,5 +1,5 @@
--- The row machine: 18 ASSEMBLE n (document 02, item 8). `at` is where the block stands in the tables. A gatherer's row holds how many of its
--- family have come in the place of its next block.
+-- The row machine: 18 ASSEMBLE n (document 02, item 8). `at` is where the block stands in the tables. A gatherer's row holds how many of
+-- its family have come in the place of its next block.
 use Rattle.machine.specs.All.{ℕ, _+_, _-_, _%_, cond, List, eqb, ltb, getD, maxBlocks}
 use Rattle.rows_laws.specs.All.{numberField, nextField, familyField, gatherers, rowCount, load, read, write, setReturning, removeAt, familyCell, freeRow}
 use Rattle.state.specs.{declared.scalars.Scalars.Scalars, All.putMoving, All.putEnded, All.putNote}
@@ -26,7 +26,8 @@ endOn w x k = moved (putNote 0 (putEnded (next32 (x .ended)) (putMoving rowCount
 -- so many have come with it
 unfoldable pub countOn : List ℕ → Scalars → (n p c j come : ℕ) → Moved
 countOn w x n p c j come =
-    cond (eqb come n) (endOn (releaseOn w x p c j .work) (releaseOn w x p c j .scalars) (x .moving)) (endOn (write w nextField j come) x (x .moving))
+    cond (eqb come n) (endOn (releaseOn w x p c j .work) (releaseOn w x p c j .scalars) (x .moving))
+    (endOn (write w nextField j come) x (x .moving))
 
 unfoldable pub laterRows : (facilities : ℕ) → List ℕ → List ℕ → Scalars → (n p c j : ℕ) → Moved
 laterRows facilities w tally x n p c j =

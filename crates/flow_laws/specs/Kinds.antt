@@ -22,7 +22,8 @@ arriveOn w tally x sample list priority =
 
 unfoldable pub generateWith : Sample → List ℕ → List ℕ → Scalars → (list priority : ℕ) → Rows
 generateWith sample w tally x list priority =
-    cond (eqb (askArrival x (sample .time)) 0) (arriveOn w tally x sample list priority) (rowsOf (stopped x (askArrival x (sample .time))) w tally)
+    cond (eqb (askArrival x (sample .time)) 0) (arriveOn w tally x sample list priority)
+    (rowsOf (stopped x (askArrival x (sample .time))) w tally)
 
 unfoldable pub generateNext : List ℕ → List ℕ → List ℕ → Scalars → (list priority : ℕ) → Rows
 generateNext tape w tally x list priority = generateWith (nextSample tape tally list) w tally x list priority

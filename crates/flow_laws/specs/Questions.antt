@@ -1,4 +1,5 @@
--- The questions of GENERATE, ADVANCE, SPLIT and TERMINATE, asked of the scalars and the tally: 0 where the answer is yes, else the number of the end.
+-- The questions of GENERATE, ADVANCE, SPLIT and TERMINATE, asked of the scalars and the tally: 0 where the answer is yes, else the number
+-- of the end.
 use Rattle.machine.specs.All.{ℕ, zero, suc, _+_, _-_, _%_, cond, List, eqb, ltb, leb, length, getD, maxLiving, maxClock, bit}
 use Rattle.layout.specs.All.{holder, residues, held, tallySize}
 use Rattle.state.specs.declared.scalars.Scalars.{Scalars}

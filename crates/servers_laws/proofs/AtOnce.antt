@@ -30,6 +30,7 @@ leads : (w : List ℕ) (p : ℕ) → aheadOf w p ≡ true → first w rel < 1024
 unfolding aheadOf
 leads w p e h = both-true (ltb (load w (tail p) - links) 1024) _ (rw (lt-ltb (first w rel) 1024 h) at e) .1
 
+-- what each of the five tests says where all of them hold
 pub at-once : (tables w : List ℕ) (v edition left n : ℕ) → atOnce tables w v edition left n ≡ true → AtOnce tables w v edition left
 unfolding atOnce
 at-once tables w v edition left n e =
@@ -71,16 +72,19 @@ some-kind (giveBack f) = (omega arith, omega arith)
 
 module _ (tables : List ℕ) (v left : ℕ) where
   -- block b is passed
-  none-next : (n b : ℕ) → noneTooMany (suc n) tables b v left ≡ true → getD tables (8 * b) 0 ≢ 0 → (tooMany tables (8 * b) v left ≡ false) × (noneTooMany n tables (b + 1) v left ≡ true)
+  none-next : (n b : ℕ) → noneTooMany (suc n) tables b v left ≡ true → getD tables (8 * b) 0 ≢ 0
+      → (tooMany tables (8 * b) v left ≡ false) × (noneTooMany n tables (b + 1) v left ≡ true)
   unfolding noneTooMany
   none-next n b e some = go (tooMany tables (8 * b) v left) (rw (ne-eqb _ 0 some) at e)
     where
-      go : (x : Bool) → cond x false (noneTooMany n tables (b + 1) v left) ≡ true → (x ≡ false) × (noneTooMany n tables (b + 1) v left ≡ true)
+      go : (x : Bool) → cond x false (noneTooMany n tables (b + 1) v left) ≡ true
+          → (x ≡ false) × (noneTooMany n tables (b + 1) v left ≡ true)
       go true e = absurd (true≢false (sym e))
       go false e = (refl, e)
 
   -- up to block b + i
-  none-at : (n b : ℕ) → noneTooMany n tables b v left ≡ true → (i : ℕ) → i < n → ((j : ℕ) → j ≤ b + i → getD tables (8 * j) 0 ≢ 0) → tooMany tables (8 * (b + i)) v left ≡ false
+  none-at : (n b : ℕ) → noneTooMany n tables b v left ≡ true → (i : ℕ) → i < n → ((j : ℕ) → j ≤ b + i → getD tables (8 * j) 0 ≢ 0)
+      → tooMany tables (8 * (b + i)) v left ≡ false
   none-at zero b e i h some = absurd (omega arith)
   none-at (suc n) b e zero h some = rw add-zero (none-next n b e (some b (omega arith)) .0)
   none-at (suc n) b e (suc i) h some =
@@ -89,13 +93,20 @@ module _ (tables : List ℕ) (v left : ℕ) where
 
 -- ---- A block that takes units of a storage
 
-module _ (m : BlockModel) (tables : List ℕ) (at v left : ℕ) (high : v ≤ 64) (storage-is : m .facilities < v) (few : tooMany tables at (v - 1) left ≡ false) where
+module _ (m : BlockModel) (tables : List ℕ) (at v left : ℕ) (high : v ≤ 64) (storage-is : m .facilities < v)
+    (few : tooMany tables at (v - 1) left ≡ false) where
   enter-fits : (n : ℕ) → At tables at (6 ∷ (v - 1) ∷ n ∷ []) → n ≤ left
   enter-fits n found = ltb-false left n (sym asked ∙ few)
     where
       asked : tooMany tables at (v - 1) left ≡ ltb left n
       asked =
-          unfold tooMany in rw (kind-at tables at 6 _ found, named tables (at + 1) v high (omega arith) (at-number tables at (6 ∷ (v - 1) ∷ n ∷ []) 1 (omega arith) found), eq-eqb (v - 1) (v - 1) refl, at-number tables at (6 ∷ (v - 1) ∷ n ∷ []) 2 (omega arith) found)
+          unfold tooMany in
+          rw (
+            kind-at tables at 6 _ found,
+            named tables (at + 1) v high (omega arith) (at-number tables at (6 ∷ (v - 1) ∷ n ∷ []) 1 (omega arith) found),
+            eq-eqb (v - 1) (v - 1) refl,
+            at-number tables at (6 ∷ (v - 1) ∷ n ∷ []) 2 (omega arith) found,
+          )
 
   -- of whatever kind
   block-fits : {b : Block} → Role b → ProperBlock m b → facts b .server ≡ v → At tables at (blockNumbers b) → facts b .units ≤ left
@@ -108,12 +119,16 @@ module _ (m : BlockModel) (tables : List ℕ) (at v left : ℕ) (high : v ≤ 64
 
 -- ---- Everybody
 
-pub walk-everybody : (test : ℕ → Transaction → Bool) (after : ℕ → Transaction → ℕ) (n : ℕ) (l : List Transaction) → Each (λ t. (test n t ≡ true) × (after n t ≡ n)) l → walk test after n l ≡ everybody l
+-- a walk on which everybody fits and takes nothing away moves the whole list
+pub walk-everybody : (test : ℕ → Transaction → Bool) (after : ℕ → Transaction → ℕ) (n : ℕ) (l : List Transaction)
+    → Each (λ t. (test n t ≡ true) × (after n t ≡ n)) l
+    → walk test after n l ≡ everybody l
 unfolding walk
 walk-everybody test after n [] h = refl
 walk-everybody test after n (t ∷ l) h = rw (h .0 .0, h .0 .1, walk-everybody test after n l (h .1))
 
-module _ {m : BlockModel} {tape : List (List ℕ)} {tapeBytes tables lists : List ℕ} (proper : Proper m tape) (rep : Represents m tape tapeBytes tables lists)
+module _ {m : BlockModel} {tape : List (List ℕ)} {tapeBytes tables lists : List ℕ} (proper : Proper m tape)
+    (rep : Represents m tape tapeBytes tables lists)
     (v left : ℕ) (high : v ≤ 64) (storage-is : m .facilities < v) (none : noneTooMany 256 tables 0 (v - 1) left ≡ true) where
   kind-there : (j : ℕ) → j < length (m .blocks) → getD tables (8 * j) 0 ≢ 0
   kind-there j h z =
@@ -121,7 +136,15 @@ module _ {m : BlockModel} {tape : List (List ℕ)} {tapeBytes tables lists : Lis
       let e = at-number tables (8 * j) (blockNumbers b) 0 (some-kind b .0) (rep .blocks j h) in
       omega (arith, some-kind b .1, e, ap (λ (i : ℕ). getD tables i 0) (add-zero (8 * j)))
 
-  pub member-fits : (t : Transaction) → Names (length (m .blocks)) (t .next) → AtServer m v t → unitsAt tables (8 * ((t .next - 1) % 256)) ≤ left
+  -- whoever waits at v asks for at most what the blocks of the model ask of v
+  pub member-fits : (t : Transaction) → Names (length (m .blocks)) (t .next) → AtServer m v t
+      → unitsAt tables (8 * ((t .next - 1) % 256)) ≤ left
   member-fits t placed stands =
-      let few = none-at tables (v - 1) left 256 0 none (t .next - 1) (omega (arith, proper .blocks .1)) (λ j g. kind-there j (omega arith)) in
-      omega (arith, units-of proper rep (t .next) placed, block-fits m tables (8 * (t .next - 1)) v left high storage-is (rw (zero-add (t .next - 1)) at few) (role _) (proper .block (t .next)) stands (rep .blocks (t .next - 1) (omega arith)))
+      let few =
+      none-at tables (v - 1) left 256 0 none (t .next - 1) (omega (arith, proper .blocks .1)) (λ j g. kind-there j (omega arith)) in
+      omega (
+        arith,
+        units-of proper rep (t .next) placed,
+        block-fits m tables (8 * (t .next - 1)) v left high storage-is (rw (zero-add (t .next - 1)) at few) (role _)
+            (proper .block (t .next)) stands (rep .blocks (t .next - 1) (omega arith)),
+      )

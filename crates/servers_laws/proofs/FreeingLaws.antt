@@ -20,6 +20,9 @@ use our.AtOnce.{AtOnce, at-once, walk-everybody, member-fits}
 use our.Named.{units-of, named}
 use our.Ready.{Ready, wakeQl-same, update-ready, update-current, set-ready, set-current, first-ready, whole-ready, passed-ready, ready-done}
 use our.Standing.{high, units-are, holder-is, preempted-is, capacity-is, ready}
+use mathlib.Core.Bool.{_||_}
+use Rattle.machine.specs.Rules.{Rules}
+use Rattle.machine.proofs.decoding.Proper.{Names}
 
 -- ---- The units of the block before which a transaction stands, as the tables have them
 
@@ -34,18 +37,24 @@ units-row tables w k = refl
 abbrev less : (edition : ℕ) → (Transaction → ℕ) → ℕ → Transaction → ℕ
 less edition units n t = leftBehind edition n (units t)
 
-less-is : (edition : ℕ) (units : Transaction → ℕ) (n : ℕ) (t : Transaction) → less edition units n t ≡ leftAfter (not (eqb edition 1)) units n t
+less-is : (edition : ℕ) (units : Transaction → ℕ) (n : ℕ) (t : Transaction)
+    → less edition units n t ≡ leftAfter (not (eqb edition 1)) units n t
 unfolding leftBehind takenOff
-less-is edition units n t = go (eqb edition 1) _ refl
+less-is edition units n t = go (eqb edition 1) (leb (units t) n) refl
   where
-    go : (b fits : Bool) → leb (units t) n ≡ fits → cond b n (cond (ltb n (units t)) n (n - units t)) ≡ cond (not b) (cond fits (n - units t) n) n
+    go : (b fits : Bool) → leb (units t) n ≡ fits
+        → cond b n (cond (ltb n (units t)) n (n - units t)) ≡ cond (not b) (cond fits (n - units t) n) n
     go true fits e = refl
-    go false true e = rw (le-ltb n _ (leb-true _ n e))
-    go false false e = rw (lt-ltb n _ (leb-false _ n e))
+    go false true e = rw (le-ltb n (units t) (leb-true (units t) n e))
+    go false false e = rw (lt-ltb n (units t) (leb-false (units t) n e))
 
 -- the walk by the tables is that by the model
-same-steps : {m : BlockModel} {tape : List (List ℕ)} {tapeBytes tables lists : List ℕ} → Proper m tape → Represents m tape tapeBytes tables lists → (l : List Transaction) → Each (Placed m) l
-    → Each (λ t. (n : ℕ) → (within (needs tables) n t ≡ within (unitsOf m) n t) × (less (m .edition) (needs tables) n t ≡ leftAfter (not (eqb (m .edition) 1)) (unitsOf m) n t)) l
+same-steps : {m : BlockModel} {tape : List (List ℕ)} {tapeBytes tables lists : List ℕ} → Proper m tape
+    → Represents m tape tapeBytes tables lists → (l : List Transaction)
+    → Each (Placed m) l
+    → Each
+    (λ t. (n : ℕ) → (within (needs tables) n t ≡ within (unitsOf m) n t)
+    × (less (m .edition) (needs tables) n t ≡ leftAfter (not (eqb (m .edition) 1)) (unitsOf m) n t)) l
 same-steps proper rep [] h = tt
 same-steps {m} {tables = tables} proper rep (t ∷ l) h = (
   λ n.
@@ -56,7 +65,8 @@ same-steps {m} {tables = tables} proper rep (t ∷ l) h = (
 
 -- ---- The laws
 
-module _ {m : BlockModel} {tape : List (List ℕ)} {tapeBytes tables lists w tally : List ℕ} {x : Scalars} {t : Transaction} {s : State} {b : Block}
+module _ {m : BlockModel} {tape : List (List ℕ)} {tapeBytes tables lists w tally : List ℕ} {x : Scalars} {t : Transaction} {s : State}
+    {b : Block}
     (h : Before m tape tapeBytes tables lists w tally x t s b) (v : ℕ) (low : 1 ≤ v) (there : v ≤ servers m) where
   abbrev server : Server
   server = Term.serverAt (s .view) v
@@ -79,7 +89,8 @@ module _ {m : BlockModel} {tape : List (List ℕ)} {tapeBytes tables lists w tal
     freed-now : behind (setUse current (v - 1) units 0 0) (v - 1) ≡ false
     freed-now = set-current (update-ready (ready h v low there)) now units 0 false
 
-    pub one-done : Done tapeBytes (freeOne tables w tally x (v - 1) units) (entering (Moves.goOn t (Execute.checkWels v (wakeQl firstOf v s₁))))
+    pub one-done : Done tapeBytes (freeOne tables w tally x (v - 1) units)
+        (entering (Moves.goOn t (Execute.checkWels v (wakeQl firstOf v s₁))))
     unfolding freeOne enterFreed
     one-done = rw (capacity-is h v low there) (ready-done (first-ready freed freed-now) (next-low h))
 
@@ -94,10 +105,21 @@ module _ {m : BlockModel} {tape : List (List ℕ)} {tapeBytes tables lists w tal
       same-part : part (qlOf s₁ v) ≡ partFor m (storage v n) (s₁ .view) (qlOf s₁ v)
       unfolding leaveWith part
       same-part =
-          cc (walk-same _ _ _ _ left (qlOf s₁ v) (same-steps (h .proper) (h .rep) (qlOf s₁ v) (unfold Moves.setUse in (each-getD _ (s .ql) _ [] (h .sane .placed .ql) tt))), free-units, leave-walks m (t .next) v n is one (s₁ .view) (qlOf s₁ v) (some-units (h .proper) v low (qlOf s₁ v) (unfold Moves.setUse in (h .sane .waits .queued .ql-stands v low))))
+          walk-same _ _ _ _ left (qlOf s₁ v) (same-steps (h .proper) (h .rep) (qlOf s₁ v) members)
+          ∙ ap
+          (λ (k : ℕ).
+          walk (within (unitsOf m)) (leftAfter (not (eqb (m .edition) 1)) (unitsOf m)) (cond (eqb (m .edition) 1) k n) (qlOf s₁ v))
+          free-units
+          ∙ sym (leave-walks m (t .next) v n is one (s₁ .view) (qlOf s₁ v) (some-units (h .proper) v low (qlOf s₁ v) waiters))
         where
           free-units : server .capacity - units ≡ free (Term.serverAt (s₁ .view) v)
           free-units = omega (arith, freed .held, freed .holds)
+
+          members : Each (Placed m) (qlOf s₁ v)
+          members = unfold Moves.setUse in (each-getD (Each (Placed m)) (s .ql) (v - 1) [] (h .sane .placed .ql) tt)
+
+          waiters : Each (AtServer m v) (qlOf s₁ v)
+          waiters = unfold Moves.setUse in (h .sane .waits .queued .ql-stands v low)
 
       -- how many are on the QL
       abbrev waiting : ℕ
@@ -122,20 +144,33 @@ module _ {m : BlockModel} {tape : List (List ℕ)} {tapeBytes tables lists w tal
           whole-part : everybody (qlOf s₁ v) ≡ partFor m (storage v n) (s₁ .view) (qlOf s₁ v)
           unfolding part Moves.setUse
           whole-part =
-              sym (walk-everybody _ _ left (qlOf s₁ v) (all-fit (qlOf s₁ v) (each-getD _ (s .ql) _ [] (h .sane .placed .ql) tt) (h .sane .waits .queued .ql-stands v low))) ∙ same-part
+              sym
+              (walk-everybody _ _ left (qlOf s₁ v)
+              (all-fit (qlOf s₁ v) (each-getD _ (s .ql) _ [] (h .sane .placed .ql) tt) (h .sane .waits .queued .ql-stands v low)))
+              ∙ same-part
 
-          whole-freed : Ready tapeBytes x t v units (server .capacity) (wakeWhole w (v - 1) waiting) (set (setUse current (v - 1) units 0 0) (768 + (v - 1)) 0) (wakeQl everybody v s₁)
+          whole-freed : Ready tapeBytes x t v units (server .capacity) (wakeWhole w (v - 1) waiting)
+              (set (setUse current (v - 1) units 0 0) (768 + (v - 1)) 0) (wakeQl everybody v s₁)
           whole-freed =
-              whole-ready freed freed-now (unfold Moves.setUse in sorted-of precedes _ (h .sane .waits .queued .ql-sorted (a .first-edition) (v - 1))) (a .some) (a .ahead)
+              whole-ready freed freed-now
+              (unfold Moves.setUse in sorted-of precedes _ (h .sane .waits .queued .ql-sorted (a .first-edition) (v - 1))) (a .some)
+              (a .ahead)
 
-        some-done : Done tapeBytes (freeSome tables w tally x (v - 1) units n) (entering (Moves.goOn t (Execute.checkWels v (wakeFor m (storage v n) s₁))))
+        some-done : Done tapeBytes (freeSome tables w tally x (v - 1) units n)
+            (entering (Moves.goOn t (Execute.checkWels v (wakeFor m (storage v n) s₁))))
         unfolding freeSome enterFreed wakeFor shareServer part wokenRows wokenLength
-        some-done = rw (capacity-is h v low there, h .rep .edition) (go _ refl)
+        some-done = rw (capacity-is h v low there, h .rep .edition) (go (atOnce tables w (v - 1) (m .edition) left waiting) refl)
           where
             go : (b : Bool) → atOnce tables w (v - 1) (m .edition) left waiting ≡ b
                 → Done tapeBytes
-                (withTally (goOn (checkWels (cond b (wakeWhole w (v - 1) waiting) (wakeWalk (memberFits tables) (memberLeft tables (m .edition)) steps left w (v - 1) (head (v - 1)))) (v - 1) units (server .capacity)) x)
-                (set (setUse current (v - 1) units 0 0) (768 + (v - 1)) (cond b 0 (wakeStays (memberFits tables) (memberLeft tables (m .edition)) steps left w (v - 1) (head (v - 1))))))
+                (withTally
+                (goOn
+                (checkWels
+                (cond b (wakeWhole w (v - 1) waiting)
+                (wakeWalk (memberFits tables) (memberLeft tables (m .edition)) steps left w (v - 1) (head (v - 1)))) (v - 1) units
+                (server .capacity)) x)
+                (set (setUse current (v - 1) units 0 0) (768 + (v - 1))
+                (cond b 0 (wakeStays (memberFits tables) (memberLeft tables (m .edition)) steps left w (v - 1) (head (v - 1))))))
                 (entering (Moves.goOn t (Execute.checkWels v (wakeQl (partFor m (storage v n) (s₁ .view)) v s₁))))
             go true e =
                 let a = at-once tables w (v - 1) (m .edition) left waiting e in
@@ -147,42 +182,65 @@ module _ {m : BlockModel} {tape : List (List ℕ)} {tapeBytes tables lists w tal
                 (λ k u j. cc (units-row tables u j)) (λ k u j. cc (units-row tables u j)) left)
                 (next-low h))
 
-module _ {m : BlockModel} {tape : List (List ℕ)} {tapeBytes tables lists w tally : List ℕ} {x : Scalars} {t : Transaction} {s : State} {v : ℕ} where
+module _ {m : BlockModel} {tape : List (List ℕ)} {tapeBytes tables lists w tally : List ℕ} {x : Scalars} {t : Transaction}
+    {s : State} {v : ℕ} where
   -- the question of RELEASE
   release-asked : Before m tape tapeBytes tables lists w tally x t s (release v)
-      → askRelease (Term.serverAt (s .view) v .inUse) (bit (Term.serverAt (s .view) v .preempted)) (Term.serverAt (s .view) v .holder) (t .number) ≡ question m (release v) t s
+      → askRelease (Term.serverAt (s .view) v .inUse) (bit (Term.serverAt (s .view) v .preempted)) (Term.serverAt (s .view) v .holder) (t .number)
+      ≡ question m (release v) t s
   unfolding askRelease question askHolder shareServer shareUnits
   release-asked h =
-      cc (go (leb 1 (server .inUse)) refl (server .preempted) (eqb (server .holder) (t .number)), h .sane .rules)
+      go (leb 1 (server .inUse)) refl (server .preempted) (eqb (server .holder) (t .number))
+      ∙ ap
+      (λ (q : Rules). unless (leb 1 (server .inUse)) 24
+      (unless (not (server .preempted)) 27 (unless (not (q .holders) || eqb (server .holder) (t .number)) 27 0))) (sym (h .sane .rules))
     where
       server : Server
       server = Term.serverAt (s .view) v
 
-      go : (held : Bool) → leb 1 (server .inUse) ≡ held → (taken own : Bool) → cond (ltb (server .inUse) 1) 24 (cond (eqb (bit taken) 0) (cond own 0 27) 27) ≡ unless held 24 (unless (not taken) 27 (unless own 27 0))
-      go true e true own = rw (le-ltb _ 1 (leb-true 1 _ e))
-      go true e false true = rw (le-ltb _ 1 (leb-true 1 _ e))
-      go true e false false = rw (le-ltb _ 1 (leb-true 1 _ e))
-      go false e taken own = rw (lt-ltb _ 1 (leb-false 1 _ e))
+      go : (held : Bool) → leb 1 (server .inUse) ≡ held → (taken own : Bool)
+          → cond (ltb (server .inUse) 1) 24 (cond (eqb (bit taken) 0) (cond own 0 27) 27)
+          ≡ unless held 24 (unless (not taken) 27 (unless own 27 0))
+      go true e true own = rw (le-ltb (server .inUse) 1 (leb-true 1 (server .inUse) e))
+      go true e false true = rw (le-ltb (server .inUse) 1 (leb-true 1 (server .inUse) e))
+      go true e false false = rw (le-ltb (server .inUse) 1 (leb-true 1 (server .inUse) e))
+      go false e taken own = rw (lt-ltb (server .inUse) 1 (leb-false 1 (server .inUse) e))
 
-  pub release-done : Before m tape tapeBytes tables lists w tally x t s (release v) → Done tapeBytes (releaseRows tables w tally x (placeOf t)) (bareBlock m (release v) t s)
+  pub release-done : Before m tape tapeBytes tables lists w tally x t s (release v)
+      → Done tapeBytes (releaseRows tables w tally x (placeOf t)) (bareBlock m (release v) t s)
   unfolding releaseRows bare wakeFor partFor blockForms shareServer shareUnits
   release-done h =
-      let proper = proper-block h in
-      let there : v ≤ servers m = omega arith in
-      rw (named tables _ v (high h v (proper .0) there) (proper .0) (operand h 1 (omega arith)), units-are h v (proper .0) there, preempted-is h v (proper .0) there, holder-is h v (proper .0) there, number-read (h .listing), release-asked)
-      (asked h _ _ (λ e. one-done h v (proper .0) there _))
+      let proper : Names (m .facilities) v = proper-block h in
+      let there : v ≤ servers m = omega (arith, proper .1) in
+      rw (
+        named tables (placeOf t + 1) v (high h v (proper .0) there) (proper .0) (operand h 1 (omega arith)),
+        units-are h v (proper .0) there,
+        preempted-is h v (proper .0) there,
+        holder-is h v (proper .0) there,
+        number-read (h .listing),
+        release-asked h,
+      )
+      (asked h (question m (release v) t s) (freeOne tables w tally x (v - 1) (Term.serverAt (s .view) v .inUse - 1))
+      (λ e. one-done h v (proper .0) there (Term.serverAt (s .view) v .inUse - 1)))
 
-  pub leave-done : {n : ℕ} → Before m tape tapeBytes tables lists w tally x t s (leave v n) → Done tapeBytes (leaveRows tables w tally x (placeOf t)) (bareBlock m (leave v n) t s)
+  pub leave-done : {n : ℕ} → Before m tape tapeBytes tables lists w tally x t s (leave v n)
+      → Done tapeBytes (leaveRows tables w tally x (placeOf t)) (bareBlock m (leave v n) t s)
   unfolding leaveRows question askHolder bareAnswer bare blockForms shareServer shareUnits
   leave-done {n} h =
       let proper = proper-block h .0 in
       let low : 1 ≤ v = omega arith in
-      rw (named tables _ v (high h v low (proper .1)) low (operand h 1 (omega arith)), operand h 2 (omega arith), units-are h v low (proper .1))
+      rw (
+        named tables _ v (high h v low (proper .1)) low (operand h 1 (omega arith)),
+        operand h 2 (omega arith),
+        units-are h v low (proper .1),
+      )
       (go low (proper .0) (proper .1) _ refl)
     where
       -- "no" is end 24
       go : (low : 1 ≤ v) (is : m .facilities < v) (there : v ≤ servers m) (held : Bool) → leb n (Term.serverAt (s .view) v .inUse) ≡ held
-          → Done tapeBytes (cond (ltb (Term.serverAt (s .view) v .inUse) n) (rowsOf (stopped x 24) w tally) (freeSome tables w tally x (v - 1) (Term.serverAt (s .view) v .inUse - n) n)) (bareAnswer (unless held 24 0) m (leave v n) t s)
+          → Done tapeBytes
+          (cond (ltb (Term.serverAt (s .view) v .inUse) n) (rowsOf (stopped x 24) w tally)
+          (freeSome tables w tally x (v - 1) (Term.serverAt (s .view) v .inUse - n) n)) (bareAnswer (unless held 24 0) m (leave v n) t s)
       go low is there true e =
           rw (le-ltb _ n (leb-true n _ e))
           (some-done h v low there _ n (h .is) (proper-block h .1 .0) is)

@@ -9,7 +9,8 @@ use Rattle.servers_laws.specs.Waking.{checkWels}
 
 -- it enters; so many units are in use from now on, who holds the server, with its row k, and whether by PREEMPT
 unfoldable pub holdUnits : List ℕ → List ℕ → Scalars → (v units who k preempts all : ℕ) → Rows
-holdUnits w tally x v units who k preempts all = withTally (goOn (checkWels (keepHolder w v k) v units all) x) (changeUse tally v (x .clock) units who preempts)
+holdUnits w tally x v units who k preempts all =
+    withTally (goOn (checkWels (keepHolder w v k) v units all) x) (changeUse tally v (x .clock) units who preempts)
 
 -- the QL is longer by one
 unfoldable pub longer : List ℕ → ℕ → List ℕ
@@ -20,7 +21,9 @@ queueUp w tally x v edition = withTally (waitOn w x v edition) (longer (updateSe
 
 unfoldable pub takeUnits : List ℕ → List ℕ → List ℕ → Scalars → (v b who preempts : ℕ) → Rows
 takeUnits tables w tally x v b who preempts =
-    cond (leb b (capacity tables v - inUse tally v)) (holdUnits w tally x v (inUse tally v + b) who (x .moving) preempts (capacity tables v)) (queueUp w tally x v (getD tables Layout.edition 0))
+    cond (leb b (capacity tables v - inUse tally v))
+    (holdUnits w tally x v (inUse tally v + b) who (x .moving) preempts (capacity tables v))
+    (queueUp w tally x v (getD tables Layout.edition 0))
 
 -- document 02, item 6: "the number of its holder, written at SEIZE"
 unfoldable pub seizeRows : List ℕ → List ℕ → List ℕ → Scalars → ℕ → Rows

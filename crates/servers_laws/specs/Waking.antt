@@ -27,7 +27,8 @@ shorter tally v = set tally (Layout.qlLength + v) (getD tally (Layout.qlLength +
 
 -- the units that the block at an index of the tables takes: one for a SEIZE or PREEMPT, 0 for a block that takes none
 unfoldable pub unitsAt : List ℕ → ℕ → ℕ
-unitsAt tables at = cond (eqb (getD tables at 0) 4) 1 (cond (eqb (getD tables at 0) 6) (getD tables (at + 2) 0) (cond (eqb (getD tables at 0) 19) 1 0))
+unitsAt tables at =
+    cond (eqb (getD tables at 0) 4) 1 (cond (eqb (getD tables at 0) 6) (getD tables (at + 2) 0) (cond (eqb (getD tables at 0) 19) 1 0))
 
 -- the units that row k waits for
 unfoldable pub memberUnits : List ℕ → List ℕ → ℕ → ℕ
@@ -37,7 +38,8 @@ memberUnits tables w k = unitsAt tables (Layout.blockWidth * ((read w nextField 
 abbrev pub memberFits : List ℕ → (left : ℕ) → List ℕ → ℕ → Bool
 memberFits tables left w k = leb (memberUnits tables w k) left
 
--- Document 02, item 12: under edition 1 the free units, judged alone for each; under edition 2 the units of the LEAVE, off which who goes takes its own
+-- Document 02, item 12: under edition 1 the free units, judged alone for each; under edition 2 the units of the LEAVE, off which who goes
+-- takes its own
 unfoldable pub leaveWith : (edition free b : ℕ) → ℕ
 leaveWith edition free b = cond (eqb edition 1) free b
 
