@@ -19,6 +19,7 @@ module _ (m : BlockModel) (tape : List (List ℕ)) (f : ℕ → ℕ) where
   sum-moving none = refl
   sum-moving (some t) = omega arith
 
+  -- the claims weigh everybody as one list, the balance weighs list by list
   pub sum-everyone : (s : State) → sumOn number-weight (everyone s) ≡ held m tape f (s .moving) + listed m tape f s
   unfolding everyone
   sum-everyone s =
@@ -68,9 +69,11 @@ module _ (m : BlockModel) (tape : List (List ℕ)) (s : State) (balanced : (f : 
   unfolding standing
   standing-sum n = sum-count _ (everyone s)
 
+  -- the balance for the weight that is 1 at n and 0 elsewhere
   pub once : (n : ℕ) → standing s n + endings n ≡ upTo (s .made) (λ k. bit (eqb k n))
   once n = omega (arith, whole (λ k. bit (eqb k n)), gone-endings n, standing-sum n)
 
+  -- claim 1: a living number is found in exactly one place, any other in none
   pub stands-once : (n : ℕ) → standing s n ≡ bit (isLiving m tape (s .records) n)
   unfolding isLiving
   stands-once n = low (leb 1 n) refl
@@ -154,6 +157,7 @@ pub record Conserved (m : BlockModel) (tape : List (List ℕ)) (s : State) : Typ
   pub one-place : (n : ℕ) → standing s n ≡ bit (isLiving m tape (s .records) n)
   pub made : s .made ≡ madeBy m tape (s .records)
   pub ended : s .ended ≡ endedBy m tape (s .records)
+  -- claim 2: "made = ended + living", told by the records
   pub balance : madeBy m tape (s .records) ≡ endedBy m tape (s .records) + livingCount m tape (s .records)
   pub living : length (places s) ≡ livingCount m tape (s .records)
 
@@ -188,6 +192,7 @@ module _ (m : BlockModel) (tape : List (List ℕ)) where
       at-most true e = omega arith
       at-most false e = omega arith
 
+  -- whoever is found in some place has a number that was given
   pub stands-made : (s : State) → Sound m tape s → (n : ℕ) → 0 < standing s n → (1 ≤ n) × (n ≤ s .made)
   stands-made s h n p = go (leb 1 n) (leb n (s .made)) refl refl
     where
@@ -251,6 +256,7 @@ module _ (m : BlockModel) (tape : List (List ℕ)) where
         books = booked-turn m tape proper s (h .shape) (h .books);
       }
 
+  -- the balance and the books together, which need each other, in every state
   pub sound : (budget room : ℕ) → Proper m tape → Each (Sound m tape) (states m tape budget room)
   sound budget room proper =
       each-state m budget room (Sound m tape) (λ s t h. sound-turn proper s h)

@@ -37,6 +37,7 @@ module _ (m : BlockModel) (tape : List (List ℕ)) where
   pub record Booked (samples : List (List ℕ)) (made ended : ℕ) (records : List Logged) : Type 0 where
     pub makes : made ≡ madeBy m tape records
     pub ends : ended ≡ endedBy m tape records
+    -- what is left of a sample list: its times less those that the records have drawn
     pub times : (list : ℕ) → Names (m .lists) list → length (nth samples list []) ≡ timesOf m tape list - usedBy m tape records list
 
   abbrev pub Books : State → Type 0

@@ -227,6 +227,7 @@ module _ {m : BlockModel} {tape : List (List ℕ)} (proper : Proper m tape) wher
           let e : n + suc (k - n) - 1 ≡ k = omega arith in
           ap bit (le-leb (suc (k - n)) (backAt m (n + suc (k - n) - 1)) (omega (arith, ap (backAt m) e)))
 
+  -- no jump ends behind the first block of a group
   pub target-outside : (n k : ℕ) → (facts (blockAt m n) .target ≡ 0 → ⊥) → firstOf k < facts (blockAt m n) .target
       → facts (blockAt m n) .target ≤ k → ⊥
   unfolding targetsMove facts

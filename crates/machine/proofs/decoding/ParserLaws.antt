@@ -30,6 +30,7 @@ continued P Q (parsed a c) f h k = k a h c
 continued P Q (refused n) f h k = h
 
 module _ {A : Type 0} where
+  -- one parser behind another: the second may rest on what the first ensured
   pub then : {B : Type 0} {P : A → Type 0} {Q : B → Type 0} {p : Parser A} {f : A → Parser B} → Ensures P p
       → ((a : A) → P a → Ensures Q (f a))
       → Ensures Q (p >>= f)
@@ -41,6 +42,7 @@ module _ {A : Type 0} where
   pub refuses : {P : A → Type 0} (n : ℕ) → Refusal n → Ensures P (refuse n)
   refuses n h = record { from = λ c. h }
 
+  -- each arm is read only under its answer of the test
   pub choice : {P : A → Type 0} (b : Bool) {p q : Parser A} → (b ≡ true → Ensures P p) → (b ≡ false → Ensures P q) → Ensures P (cond b p q)
   choice {P} b {p} {q} h k = cond-cases (Ensures P) b p q h k
 
@@ -51,11 +53,13 @@ module _ {A : Type 0} where
       go (parsed a c) h = f a h
       go (refused n) h = h
 
+-- n times the same parser: a list of n, of which each is as that parser ensures
 pub repeated : {A : Type 0} {P : A → Type 0} {p : Parser A} (n : ℕ) → Ensures P p → Ensures (λ l. (length l ≡ n) × Each P l) (times n p)
 unfolding times
 repeated zero e = gives (refl, tt)
 repeated (suc n) e = then e (λ a h. then (repeated n e) (λ l k. gives (omega (arith, k .0), (h, k .1))))
 
+-- whoever comes past a question knows its answer
 pub asked : (b : Bool) (n : ℕ) → Refusal n → Ensures (λ u. T b) (ask b n)
 unfolding ask
 asked true n h = gives tt

@@ -55,6 +55,7 @@ code-server m NE v h = (omega arith, h .1)
 code-server m F v h = (omega arith, h .1)
 code-server m NF v h = (omega arith, h .1)
 
+-- facilities come first and storages behind them, so both are servers of the model
 pub share-server : (m : BlockModel) (x : Share) → ProperShare m x → Names (servers m) (shareServer x)
 unfolding shareServer
 share-server m (facility v) h = (h .0, omega arith)

@@ -220,6 +220,7 @@ module _ (s : List ℕ) (n : Counts) (capacities : List ℕ) where
         (both (eqb kind 19) (then (ranged s 1 (n .facilities)) (λ f h. gives (facility-in f (h .0) (h .1), tt)))
         (then (ranged s 1 (n .facilities)) (λ f h. gives (facility-in f (h .0) (h .1), tt)))))))))))))))))))))
 
+    -- the operands of each kind are in the ranges that `ProperBlock` states
     pub block-parsed : (kinds : ℕ) → Ensures Parsed-block (blockField s kinds n capacities)
     unfolding blockField
     block-parsed kinds = then (ranged s 1 kinds) (λ kind h. operands-good kind)

@@ -207,6 +207,7 @@ module _ (new old : Rules) (kinds editions : ℕ) (s : List ℕ) where
       let r = counting kinds editions new in
       after r fields-under (λ m. alike r _ (λ u. alike r _ (λ u. record { from = λ c. refl }))) .from c
 
+-- only the rules that a model carries along differ
 pub model-read : (new old : Rules) → old .kinds ≡ new .kinds → old .editions ≡ new .editions → (s : List ℕ) (c : Cursor)
     → modelOf new s c ≡ underRules new (modelOf old s c)
 model-read new old same alike s c =

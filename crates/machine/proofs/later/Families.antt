@@ -403,5 +403,6 @@ module _ (m : BlockModel) (tape : List (List ℕ)) where
 
   -- ---- What the claim says
 
+  -- of the invariant, what demand 3 asks for
   pub kindred-families : (s : State) → Kindred s → Each (λ t. t .family ≡ familyBy m tape (s .records) (t .number)) (everyone s)
   kindred-families s h = each-map (λ t p. p .1) (everyone s) (everybody-each _ s h)

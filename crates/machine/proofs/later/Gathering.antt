@@ -61,6 +61,7 @@ unfolding takeReady
 takeReady-gatherers [] s = takeFirst-gatherers _ _ ∙ nextEvents-gatherers (s .fel) s
 takeReady-gatherers (t ∷ l) s = takeFirst-gatherers (t ∷ l) s
 
+-- nobody comes from or to an ASSEMBLE between blocks
 pub taking-gatherers : (o : Option Transaction) (s : State) → taking o s .gatherers ≡ s .gatherers
 unfolding taking
 taking-gatherers none s = takeReady-gatherers (s .rel) s
@@ -165,6 +166,7 @@ role (giveBack f) = other refl
 -- the invariant
 pub record Gathering (m : BlockModel) (tape : List (List ℕ)) (s : State) : Type 0 where
   pub kindred : Kindred m tape s
+  -- at each ASSEMBLE, of each family: at most one waits there, with the count that the records tell
   pub gathers : (b f : ℕ) → 1 ≤ b → 0 < facts (blockAt m b) .gathers → OneGathers m tape s b f
 
 -- the claims of one state
@@ -490,6 +492,7 @@ module _ {m : BlockModel} {tape : List (List ℕ)} (proper : Proper m tape) wher
       later k true p = p .1
       later k false p = p
 
+  -- the last to come goes on at once, so a waiting count never reaches the number that is gathered
   pub come-below : (s : State) → Gathering m tape s → (b : ℕ) → 1 ≤ b → 0 < facts (blockAt m b) .gathers
       → Each (λ g. g .come < facts (blockAt m b) .gathers) (gatherersAt s b)
   come-below s h b low positive =

@@ -30,7 +30,9 @@ module _ (m : BlockModel) (tape : List (List ℕ)) where
   -- of facility f, which is v: what is claimed of it and of the interrupted ones; where somebody lost it, it is preempted
   pub record Tells (v : Server) (f : ℕ) (stopped : List Interrupted) (records : List Logged) : Type 0 where
     pub held : Held m tape v f records
+    -- the records and the list of the interrupted agree on who lost it
     pub loser : map (λ i. i .who .number) (those (ofFacility f) stopped) ≡ upto (loserBy m tape records f)
+    -- nobody has lost a facility that is free or only seized
     pub taken : 0 < loserBy m tape records f → (v .preempted ≡ true) × (0 < v .holder)
 
   pub record HoldingIn (l : List Server) (stopped : List Interrupted) (records : List Logged) : Type 0 where
@@ -690,6 +692,7 @@ module _ (m : BlockModel) (tape : List (List ℕ)) where
 
   -- ---- What is claimed of the interrupted ones
 
+  -- of the invariant, what demand 3 asks for of the interrupted
   pub taken-from : (s : State) → Holding s → Each (TakenFrom m tape s) (s .interrupted)
   unfolding ofFacility count
   taken-from s h =

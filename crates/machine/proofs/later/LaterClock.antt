@@ -110,6 +110,7 @@ module _ (new : Rules) (m : BlockModel) (higher : m .rules .maxClock ≤ new .ma
   same-close s _ (own k) z h = h
   same-close s _ (closing c) z h = λ e. omega (arith, c .no-end)
 
+  -- a run that did not end 22 is the same run under a later limit
   pub later-same : (tape : List (List ℕ)) (budget room : ℕ) → NotLate (run m tape budget room)
       → run m′ tape budget room ≡ run m tape budget room
   later-same tape budget room h =

@@ -89,6 +89,7 @@ pub older-models : (model tape : List ℕ) (budget work room report : ℕ) → o
 older-models =
     keeps-models document02 (item6 .kinds) (item6 .editions) (document02 .kinds) (document02 .editions) (omega arith) (omega arith)
 
+-- what was accepted before there were editions gives the same bytes now
 pub first-edition : (model tape : List ℕ) (budget work room report : ℕ) → outcome item11 model tape budget work room report .refusal ≡ 0
     → outcome document02 model tape budget work room report ≡ outcome item11 model tape budget work room report
 first-edition =

@@ -32,6 +32,7 @@ module _ {old new : Rules} (wider : Wider old new) where
       (rw (own-rules old model m c e) (tape-widens wider tape (m .lists) .from beginning)))
   with-model model tape (refused n) r′ e h = tt
 
+  -- what the old rules accept the new ones accept as the same model and tape, but for the rules
   pub validated : (model tape : List ℕ) (work report : ℕ)
       → Accepted new (validate old model tape work report) (validate new model tape work report)
   unfolding validate

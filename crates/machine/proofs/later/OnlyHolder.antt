@@ -211,6 +211,7 @@ module _ (m : BlockModel) (tape : List (List ℕ)) (proper : Proper m tape) wher
         (answered-alike (takenFrom s .moving) (takenFrom s) (holding-taking m tape (s .moving) s holding)
         (rw (scheme-records (execute (takenFrom s .moving) m (takenFrom s))) at own))
 
+    -- where everybody gave back only what was its own, asking for the holder changes nothing
     pub own-same : (budget room : ℕ) → Own (run m tape budget room .records) → run m′ tape budget room ≡ run m tape budget room
     own-same budget room own =
         run-same new m budget room (Accounts m tape) (λ s. Own (s .records)) (λ s t i. accounts-turn m tape proper s i)

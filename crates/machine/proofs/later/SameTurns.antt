@@ -111,6 +111,7 @@ module _ (new : Rules) (m : BlockModel) where
       let b = blockAt m (t .next) in
       ap (λ n. answer n m′ b t s) h ∙ answer-same (question m b t s) b t s
 
+  -- of a turn only its question reads the rules
   pub turn-same : (s : State) → AnsweredAlike (takenFrom s .moving) (takenFrom s) → turn m′ s ≡ turn m s
   unfolding turn
   turn-same s h = ap (wsScheme m′) (execute-same _ _ h) ∙ scheme-same _
@@ -157,6 +158,7 @@ module _ (new : Rules) (m : BlockModel) where
             let z : (endBefore budget room s ≡ 0 → ⊥) = eqb-false _ _ e in
             run-off m′ budget room n s z ∙ sym (run-off m budget room n s z)
 
+    -- any claim that turns keep may help to show that the questions are answered alike
     pub run-same : (tape : List (List ℕ)) → I (start m tape) → Same (run m tape budget room)
         → run m′ tape budget room ≡ run m tape budget room
     unfolding run

@@ -48,6 +48,7 @@ module _ (Q : State → Type 0) where
   unfolding effect takeUnits
   waitServer-cases m code v c t s waits goes-back passes = cond-cases Q _ _ _ waits (λ e. cond-cases Q _ _ _ goes-back passes)
 
+  -- WAITIF of a comparison: it waits while the comparison holds, and goes on else
   pub waitTerms-cases : (m : BlockModel) (a : Term) (r : Relation) (b : Term) (t : Transaction) (s : State)
       → (compare (m .values) (s .view) (t .parameters) a r b ≡ true → Q (mustWait toWsl t s))
       → (compare (m .values) (s .view) (t .parameters) a r b ≡ false → Q (goOn t (enters t s))) → Q (effect m (waitTerms a r b) t s)
@@ -97,6 +98,7 @@ module _ (Q : State → Type 0) where
       go [] e = nobody e
       go (i ∷ l) e = back i l e
 
+  -- the WS scheme runs only where the turn has set no end
   pub wsScheme-cases : (m : BlockModel) (s : State) → (s .end ≡ 0 → Q (wakeWsl (λ t. not (waitsOn m (s .view) t)) s))
       → ((s .end ≡ 0 → ⊥) → Q s) → Q (wsScheme m s)
   unfolding wsScheme

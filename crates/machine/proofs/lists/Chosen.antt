@@ -12,6 +12,7 @@ module _ {A : Type 0} (q : A → Bool) where
       go true h = ap (λ (r : List A). x ∷ r) h
       go false h = h
 
+  -- a newcomer that fails the test leaves those that pass as they were
   pub those-insert : (before : A → A → Bool) (x : A) (l : List A) → q x ≡ false → those q (insert before x l) ≡ those q l
   unfolding insert those
   those-insert before x [] e = rw e
@@ -21,6 +22,7 @@ module _ {A : Type 0} (q : A → Bool) where
       go true h = unfold those in (rw e)
       go false h = unfold those in (rw h)
 
+  -- a newcomer that passes, where nobody did, is the only one
   pub those-one : (before : A → A → Bool) (x : A) (l : List A) → q x ≡ true → those q l ≡ [] → those q (insert before x l) ≡ x ∷ []
   unfolding insert those
   those-one before x [] e h = rw e
@@ -69,6 +71,7 @@ upto-none k e = go (eqb k 0) refl e
     go true q e = eqb-true k 0 q
     go false q e = absurd (omega (arith, ap (λ (l : List ℕ). length l) e))
 
+-- read backwards: such a list that has a member has that one alone
 pub upto-some : (k x : ℕ) (xs : List ℕ) → x ∷ xs ≡ upto k → (x ≡ k) × (xs ≡ []) × (0 < k)
 upto-some k x xs e = go (eqb k 0) refl e
   where

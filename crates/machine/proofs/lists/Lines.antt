@@ -28,6 +28,7 @@ module _ {A : Type 0} where
 abbrev pub meets : Transaction → Transaction → Bool
 meets a b = leb (a .priority) (b .priority)
 
+-- wherever the edition puts the newcomer, the sum is the same
 pub sum-lineUp : (f : Transaction → ℕ) (edition : ℕ) (t : Transaction) (l : List Transaction)
     → sumOn f (lineUp edition t l) ≡ f t + sumOn f l
 unfolding lineUp fromBack
@@ -50,6 +51,7 @@ pub lineUp-one : (edition : ℕ) (t : Transaction) (l : List Transaction) → ed
 unfolding lineUp
 lineUp-one edition t l e = rw (eq-eqb edition 1 e)
 
+-- edition 2 lines up by order of coming, so only edition 1 keeps a line sorted
 pub sorted-lineUp : (edition : ℕ) (t : Transaction) (l : List Transaction) → edition ≡ 1 → Sorted precedes l
     → Sorted precedes (lineUp edition t l)
 sorted-lineUp edition t l e h = rw (lineUp-one edition t l e) (sorted-in t l h)
@@ -87,6 +89,7 @@ module _ (f : Transaction → ℕ) (m : BlockModel) where
       cond-cases same (eqb b (unitsOf m t)) _ _ (λ e. omega arith)
       (λ e. cond-cases same (ltb b (unitsOf m t)) _ _ (λ d. omega arith) (λ d. omega arith))
 
+  -- who goes and who stays are together those that waited
   pub sum-partFor : (x : Share) (w : View) (l : List Transaction) → Whole f (partFor m x w) l
   unfolding partFor queueRemove
   sum-partFor (facility v) w l = sum-first f l

@@ -112,6 +112,7 @@ precedes-trans a b c h k = before-precedes a c (before-trans a b c (precedes-bef
 precedes-asym : (a b : Transaction) → precedes a b ≡ true → precedes b a ≡ false
 precedes-asym a b h = untrue (precedes b a) (λ e. before-asym a b (precedes-before a b h) (precedes-before b a e))
 
+-- the law above, of the order of REL and of each QL
 pub sorted-in : (t : Transaction) (l : List Transaction) → Sorted precedes l → Sorted precedes (insert precedes t l)
 sorted-in t l h = sorted-insert precedes precedes-asym precedes-trans t l h
 

@@ -25,6 +25,7 @@ module _ {A : Type 0} (f : A → ℕ) where
       go true e = refl
       go false e = omega arith
 
+  -- a test parts a list: who passes and who does not weigh together as much as all
   pub sum-those : (p : A → Bool) (l : List A) → sumOn f (those p l) + sumOn f (others p l) ≡ sumOn f l
   unfolding those
   sum-those p [] = refl
@@ -114,6 +115,7 @@ module _ {A : Type 0} where
   sum-length [] = refl
   sum-length (x ∷ l) = omega (arith, sum-length l)
 
+  -- counting is weighing by 1
   pub sum-count : (p : A → Bool) (l : List A) → sumOn (λ x. bit (p x)) l ≡ count p l
   unfolding count those
   sum-count p [] = refl

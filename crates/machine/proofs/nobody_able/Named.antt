@@ -21,6 +21,7 @@ module _ (S : Thing → Type 0) where
     pub clock : S theClock → w .clock ≡ w′ .clock
     pub entries : (i : ℕ) → S (entry i) → getD (w .entries) i 0 ≡ getD (w′ .entries) i 0
     pub contents : (i : ℕ) → S (queue i) → getD (w .queues) i emptyQueue .content ≡ getD (w′ .queues) i emptyQueue .content
+    -- of the servers in S both numbers that a term can read
     pub capacities : (i : ℕ) → S (server i) → getD (w .servers) i (idleServer 0) .capacity ≡ getD (w′ .servers) i (idleServer 0) .capacity
     pub in-use : (i : ℕ) → S (server i) → getD (w .servers) i (idleServer 0) .inUse ≡ getD (w′ .servers) i (idleServer 0) .inUse
 
@@ -102,6 +103,7 @@ module _ (S : Thing → Type 0) where
       all-lengths : (w : View) (p : List ℤ) → length (worths w p values []) ≡ length values
       all-lengths w p = worths-length w p values [] ∙ omega arith
 
+      -- by recursion on how many values a term may still go through
       pub evaluate-same : (t : Term) → Within S (length values) t → evaluate values w p t ≡ evaluate values w′ p′ t
       unfolding evaluate
       evaluate-same t h =
@@ -120,6 +122,7 @@ module _ (S : Thing → Type 0) where
 
   -- ---- Who waits at a WAITIF of the model
 
+  -- the WS scheme asks the same of two views that agree on what the WAITIFs read
   pub waits-same : (m : BlockModel) → Watches S m → (w w′ : View) → Agrees w w′ → (t : Transaction) → waitsOn m w t ≡ waitsOn m w′ t
   unfolding waitsOn holds truth
   waits-same m watches w w′ agrees t = go (facts (blockAt m (t .next)) .waitsWhile) (watches .waits (t .next))

@@ -47,6 +47,7 @@ module _ (m : BlockModel) (tape : List (List ℕ)) (s : State) where
       nobody e (nobodyWaits h) = ap length h
       nobody e (oneReady h) = absurd h
 
+  -- claim 3 of one state: where the clock is about to move, nobody on a QL, a WEL or the WSL could go
   pub able-none : Waited m s → m .edition ≡ 1 → s .end ≤ 1 → s .moving ≡ none → s .rel ≡ [] → ableToGo m tape s ≡ 0
   unfolding ableToGo ableOnWels
   able-none k first e o r =

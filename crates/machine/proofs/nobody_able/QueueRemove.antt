@@ -171,6 +171,7 @@ role-units m (preempting f) k a = omega arith
 role-units m (taking (storage v b)) k a = k .1 .0
 role-units m (neither e z) k a = absurd (omega arith)
 
+-- whoever waits for a server asks for a unit at least, so that a walk with no units left stops
 pub some-units : {m : BlockModel} {tape : List (List ℕ)} → Proper m tape → (v : ℕ) → 1 ≤ v → (l : List Transaction) → Each (AtServer m v) l
     → Each (λ t. 1 ≤ unitsOf m t) l
 some-units {m} proper v one l h =

@@ -128,6 +128,7 @@ module _ {m : BlockModel} {t : Transaction} {rel : List Transaction} {l : List S
   abbrev pub Kept : Server → Parted → Type 0
   Kept x p = Sorted precedes (p .stay) × QlWaits m (wake (p .go) rel) x v (p .stay)
 
+  -- those who go come to REL and the server is x then: who stays does not fit, or somebody ready precedes it
   pub parted-queued : (x : Server) (p : Parted) → Both (AtServer m v) p → (m .edition ≡ 1 → Kept x p) → serverOf m t ≡ 0
       → Queued m (wake (p .go) rel) (wake (p .go) rel) (setNth l v x) (setNth ql v (p .stay))
   parted-queued x p both kept off =

@@ -29,10 +29,12 @@ grows-wake (t ∷ l) rel =
 -- ---- More are ready
 
 module _ {m : BlockModel} {ready ready′ : List Transaction} (keeps : (P : Transaction → Type 0) → Some P ready → Some P ready′) where
+  -- what is known of a QL stays known where more are ready
   pub ql-more : {x : Server} {v : ℕ} {q : List Transaction} → QlWaits m ready x v q → QlWaits m ready′ x v q
   ql-more (nobodyFits h) = nobodyFits h
   ql-more (nextReady f h) = nextReady f (keeps _ h)
 
+  -- and so for a WEL
   pub wel-more : {x : Server} {code : Code} {i : ℕ} {q : List Transaction} → WelWaits m ready x code i q → WelWaits m ready′ x code i q
   wel-more (codeTrue e) = codeTrue e
   wel-more (nobodyWaits e) = nobodyWaits e
@@ -61,11 +63,13 @@ module _ {m : BlockModel} {ready ready′ : List Transaction} (keeps : (P : Tran
 -- ---- The one that moves
 
 module _ {m : BlockModel} {t : Transaction} {ready : List Transaction} where
+  -- one that is not at this server was no reason for anybody to wait there
   pub ql-else : {x : Server} {v : ℕ} {q : List Transaction} → (AtServer m v t → ⊥) → QlWaits m (t ∷ ready) x v q → QlWaits m ready x v q
   ql-else n (nobodyFits h) = nobodyFits h
   ql-else n (nextReady f (inl p)) = absurd (n (p .0))
   ql-else n (nextReady f (inr h)) = nextReady f h
 
+  -- and so for a WEL
   pub wel-else : {x : Server} {code : Code} {i : ℕ} {q : List Transaction} → (AtWel m i t → ⊥)
       → WelWaits m (t ∷ ready) x code i q → WelWaits m ready x code i q
   wel-else n (codeTrue e) = codeTrue e

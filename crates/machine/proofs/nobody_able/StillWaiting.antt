@@ -264,6 +264,7 @@ unfolding those
 all-stay p [] h = refl
 all-stay p (x ∷ l) h = rw (h .0) (ap (λ (k : List _). x ∷ k) (all-stay p l (h .1)))
 
+-- where every comparison of the WSL holds the WS scheme wakes nobody, and the state is as it was
 pub scheme-idle : (m : BlockModel) (s : State) → AllHold m s → wsScheme m s ≡ s
 unfolding wakeWsl wake
 scheme-idle m s h =

@@ -44,6 +44,7 @@ pub record Queued (m : BlockModel) (ready rel : List Transaction) (l : List Serv
   pub ql-sorted : m .edition ≡ 1 → (k : ℕ) → Sorted precedes (getD ql k [])
   -- who waits on a QL stands at a SEIZE or ENTER of that server
   pub ql-stands : (v : ℕ) → 1 ≤ v → Each (AtServer m v) (nth ql v [])
+  -- only edition 1 promises it: under edition 2 a later one that fits may wait behind one that does not
   pub ql-waits : m .edition ≡ 1 → (v : ℕ) → 1 ≤ v → v ≤ servers m → QlWaits m ready (serverIn l v) v (nth ql v [])
 
 -- the WELs

@@ -17,6 +17,7 @@ use our.nobody_able.WaitsBlocks.{Walked, toRel-walked, effect-walked}
 abbrev pub Alike : Server → Server → Type 0
 Alike x y = (y .capacity ≡ x .capacity) × (y .inUse ≡ x .inUse) × (y .holder ≡ x .holder) × (y .preempted ≡ x .preempted)
 
+-- statistics do not bear on who waits
 pub sampled-alike : (ticks : ℕ) (l : List Server) (ql : List (List Transaction)) (k : ℕ) (d : Server)
     → Alike (getD l k d) (getD (sampleServers ticks l ql) k d)
 unfolding sampleServers

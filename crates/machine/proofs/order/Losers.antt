@@ -15,6 +15,7 @@ all-four true true false d e = absurd (true≢false (sym e))
 all-four true false c d e = absurd (true≢false (sym e))
 all-four false b c d e = absurd (true≢false (sym e))
 
+-- the first of those that PREEMPT may take the facility from
 pub loser-loses : (t : Transaction) (f : ℕ) (s : State) (e : Event) (l : List Event) → losersTo t f s ≡ e ∷ l
     → Loses t (serverAt (s .view) f) e
 unfolding losesTo

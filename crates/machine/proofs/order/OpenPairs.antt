@@ -28,6 +28,7 @@ member-key k [] h = absurd h
 member-key k (x ∷ l) (inl e) = (x, inl refl, sym e)
 member-key k (x ∷ l) (inr h) = let r = member-key k l h in (r .0, inr (r .1), r .2)
 
+-- two members of a falling list, where the older one stands behind
 pub pair : (n : ℕ) (older k : Key) (l : List Wait) → Falling n l → Behind older k (map key l) → Pair l older k
 pair n older k [] f h = absurd h
 pair n older k (x ∷ l) f (inl h) =

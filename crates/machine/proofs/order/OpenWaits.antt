@@ -100,6 +100,7 @@ linked-as le same h =
       same = λ f k. h .same f k ∙ sym (same f k);
     }
 
+-- where neither records nor waits changed, they are linked as before
 pub linked-quiet : {m : BlockModel} {s s′ : State} → Quiet s s′ → s′ .moving ≡ s .moving → LinkedIn m s → LinkedIn m s′
 linked-quiet {m} {s} {s′} q e h =
     subst (λ rs. Linked m rs (s′ .serial) (λ f. waiting f s′ + sumOn (marked f) (movingOne (s′ .moving)))) (sym (q .records))

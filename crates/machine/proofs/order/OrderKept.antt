@@ -115,6 +115,7 @@ module _ (m : BlockModel) (tape : List (List ℕ)) where
     handed-turns n s (hand t h) =
         hand t (record { moves = h .moves; alone = h .alone; linked = h .linked; in-place = h .in-place })
 
+    -- edition 1: who gets in has no open rival that began earlier, so the record keeps the order
     pub ordered-turn : (s : State) → s .end ≡ 0 → Shape m s → Waits m s → Settled m s → Once s → Ordered s → Ordered (turn m s)
     unfolding turn
     ordered-turn s z shape w settled once h = wsScheme-cases Ordered m _ (λ e. ordered-wakeWsl _ _ done) (λ e. done)

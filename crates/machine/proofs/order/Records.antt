@@ -233,6 +233,7 @@ all-six false b c d e f h = absurd h
 module _ (m : BlockModel) (tape : List (List ℕ)) where
   -- two open waits for one server at equal priority and equal units
   pub record Rivals (a b : Key) : Type 0 where
+    -- two waits are rivals: for the same server, that no PREEMPT names, and for as many units
     pub server : facts (blockAt m (a .block)) .server ≡ facts (blockAt m (b .block)) .server
     pub some-server : facts (blockAt m (a .block)) .server ≡ 0 → ⊥
     pub unnamed : preemptNames m tape (facts (blockAt m (a .block)) .server) ≡ false
@@ -308,6 +309,7 @@ module _ (m : BlockModel) (tape : List (List ℕ)) where
               closes o _ refl (end-open l r k d o) _ refl
 
   module _ (r : Logged) (rs : List Logged) (ends : EndsInOrder (r .entry .transaction) (opens rs)) where
+    -- what keeps the claim as the records grow
     pub order-more : InOrder m tape (reverse rs) → InOrder m tape (reverse (r ∷ rs))
     order-more before =
         rw reverse-cons

@@ -226,6 +226,7 @@ module _ (m : BlockModel) (tape : List (List ℕ)) (t : Transaction) (s : State)
       elsewhere : (x : Wait) → numbered (t .number) x ≡ 0 → only w x ≡ 0
       elsewhere x d = rw (e, bit-zero (eqb (t .number) (x .key .number)) d)
 
+  -- whoever gets in ends its wait; none that is open is its rival and began before it
   pub ends-in-order : m .edition ≡ 1 → (t .returning ≡ true → Standing m t s × GetsIn (blockAt m (t .next)) s)
       → EndsInOrder m tape (t .number) (opens (s .records))
   ends-in-order first returner older k b n rival = go (ltb 0 (marked (only (p .first)) t)) refl

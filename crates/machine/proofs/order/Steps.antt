@@ -136,6 +136,7 @@ quiet-ended n s = record { records = refl; serials = omega arith; weights = λ f
 
 -- ---- Each kind
 
+-- the five ways out of a block, of every kind
 pub step-effect : (m : BlockModel) (b : Block) (t : Transaction) (s : State) → ProperBlock m b → Shape m s → Step b t s (effect m b t s)
 unfolding effect facts serverAt takeUnits toGatherers comes released shareServer
 step-effect m (generate list p) t s h k = passes (λ n z. absurd (n refl)) (quiet-moveTo _ t (quiet-arrival _ list p _ _))

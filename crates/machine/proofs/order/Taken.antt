@@ -98,6 +98,7 @@ module _ (m : BlockModel) where
   pub record InHand (t : Transaction) (s : State) : Type 0 where
     pub moves : s .moving ≡ some t
     pub alone : Alone (t .number) s
+    -- the one that is taken counts among those who wait if it came back from a list
     pub linked : Linked m (s .records) (s .serial) (λ f. waiting f s + marked f t)
     pub in-place : t .returning ≡ true → Standing m t s
 

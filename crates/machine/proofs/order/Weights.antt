@@ -58,6 +58,7 @@ weigh-wake f [] rel = omega arith
 weigh-wake f (t ∷ l) rel =
     omega (arith, weigh-wake f l (insert precedes (withReturning true t) rel), sum-insert (marked f) precedes (withReturning true t) rel)
 
+-- whom LEAVE and RELEASE wake still waits, on REL with the mark
 pub quiet-wakeFor : (m : BlockModel) (x : Share) (s : State) → Quiet s (wakeFor m x s)
 unfolding wakeFor wakeQl waiting
 quiet-wakeFor m x s =
@@ -111,6 +112,7 @@ quiet-checkWels v s = checkWels-kept (Quiet s) v (λ code b q. quiet-trans q (qu
 
 -- ---- Onto REL and the FEL, without the mark
 
+-- without the mark nobody on REL waits
 pub quiet-toRel : (t : Transaction) (s : State) → t .returning ≡ false → Quiet s (toRel t s)
 unfolding toRel waiting
 quiet-toRel t s e =

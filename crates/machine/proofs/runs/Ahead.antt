@@ -13,6 +13,7 @@ pub record Ahead (s : State) : Type 0 where
   pub later : Each (λ (e : Event). s .view .clock ≤ e .time) (s .fel)
   pub rising : Rising (s .fel)
 
+-- the FEL's order puts a newcomer where times still rise
 pub rising-insert : (x : Event) (l : List Event) → Rising l → Rising (insert earlier x l)
 unfolding insert
 rising-insert x [] h = (tt, tt)

@@ -12,6 +12,7 @@ wrap-pos n h =
     let low : n % 4294967296 ≡ n = omega arith in
     ap signed low ∙ rw (lt-ltb n 2147483648 h)
 
+-- the wrap of 32 bits does not show below 2 to the 31
 pub clock-term : (w : View) (parameters lower : List ℤ) → w .clock < 2147483648 → term w parameters lower clockTerm ≡ pos (w .clock)
 unfolding term
 clock-term w parameters lower h = wrap-pos (w .clock) h

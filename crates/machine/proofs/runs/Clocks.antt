@@ -15,6 +15,7 @@ Given s = Each (λ (e : Event). e .who .serial ≤ s .serial) (s .fel)
 pub record Timely (most : ℕ) (s : State) : Type 0 where
   pub clock : s .view .clock ≤ most
   pub times : Each (λ (e : Event). e .time ≤ most) (s .fel)
+  -- what an interrupted one has left was once a time of the tape
   pub remaining : Each (λ (i : Interrupted). i .remaining ≤ most) (s .interrupted)
   pub serials : Given s
 
@@ -112,6 +113,7 @@ module _ {most : ℕ} where
 
 -- ---- Each kind, where its question was answered with yes
 
+-- a question that answers 0 was answered yes, and so were those behind it
 pub unless-yes : (b : Bool) (n later : ℕ) → unless b n later ≡ 0 → (n ≡ 0 → ⊥) → (b ≡ true) × (later ≡ 0)
 unless-yes true n later e ne = (refl, e)
 unless-yes false n later e ne = absurd (ne e)

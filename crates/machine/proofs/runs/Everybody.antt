@@ -58,6 +58,7 @@ module _ (P : Transaction → Type 0) (U : Unmoved P) where
         moving = h .moving;
       }
 
+  -- who goes to the FEL is stamped with its time
   pub toFel-everybody : (time : ℕ) (t : Transaction) (s : State) → P (withStamp time t) → Everybody P s → Everybody P (toFel time t s)
   unfolding toFel
   toFel-everybody time t s p h =
@@ -203,6 +204,7 @@ module _ (P : Transaction → Type 0) (U : Unmoved P) where
   unfolding comes
   comes-everybody g t s p h = set-gatherers-everybody _ _ s (each-replace PG _ _ _ (p, tt) (one-block (t .next) s h)) h
 
+  -- the one that gathered goes on; who came last leaves the machine
   pub released-everybody : (g : Gatherer) (t : Transaction) (s : State) → P (withNext (suc (t .next)) (g .who)) → Everybody P s
       → Everybody P (released g t s)
   unfolding released
@@ -225,6 +227,7 @@ module _ (P : Transaction → Type 0) (U : Unmoved P) where
   interrupted-everybody f s i l q h =
       rw q at (each-those (λ (i : Interrupted). P (i .who)) (ofFacility f) (s .interrupted) (h .interrupted)) .0
 
+  -- it keeps the time that is left in its stamp
   pub interrupt-everybody : (e : Event) (t : Transaction) (f : ℕ) (s : State) → P (withStamp (e .time - s .view .clock) (e .who))
       → Everybody P s
       → Everybody P (interrupt e t f s)
@@ -241,6 +244,7 @@ module _ (P : Transaction → Type 0) (U : Unmoved P) where
         moving = h .moving;
       }
 
+  -- its time goes on from this clock
   pub resume-everybody : (i : Interrupted) (f : ℕ) (s : State) → P (withStamp (s .view .clock + i .remaining) (i .who)) → Everybody P s
       → Everybody P (resume i f s)
   unfolding resume
@@ -310,6 +314,7 @@ module _ (P : Transaction → Type 0) (U : Unmoved P) where
 
   -- ---- Making
 
+  -- a newborn comes before its GENERATE, at some time; where the list is used up nobody comes
   pub arrival-everybody : (l : List ℕ) (list p n : ℕ) (s : State) → ((time : ℕ) → P (withStamp time (newborn (suc (s .made)) p n)))
       → Everybody P s
       → Everybody P (arrival l list p n s)

@@ -32,6 +32,7 @@ pub record Closed (Q : State → Type 0) : Type 0 where
   pub counter : (n : ℕ) (s : State) → Q s → Q (setCounter n s)
   pub made : (n : ℕ) (s : State) → Q s → Q (setMade n s)
   pub ended : (n : ℕ) (s : State) → Q s → Q (setEnded n s)
+  -- a record, and how many bytes are written with it
   pub written : (n : ℕ) (r : Logged) (s : State) → Q s → Q (setWritten n (setRecords (r ∷ s .records) s))
   pub stop : (n : ℕ) (s : State) → Stop n → Q s → Q (setEnd n s)
 
@@ -90,6 +91,7 @@ ask-givesBack m f t s =
     (unless-stops (serverAt (s .view) f .preempted && eqb (serverAt (s .view) f .holder) (t .number)) 27 _ tt
     (ask-resume m (interruptedAt s f) s))
 
+-- a question answers 0 or one of the ends that are stated for it
 pub question-stops : (m : BlockModel) (b : Block) (t : Transaction) (s : State) → Stop (question m b t s)
 unfolding question
 question-stops m (generate list p) t s = ask-generate m (timesLeft s list) s
@@ -122,6 +124,7 @@ module _ (Q : State → Type 0) (C : Closed Q) where
   pub check-kept : (v : ℕ) (s : State) → Q s → Q (checkWels v s)
   check-kept v s h = checkWels-kept Q v (wakeFirstWel-kept v) s h
 
+  -- coming to REL before block n, whoever it is
   pub goes-on : (n : ℕ) (t : Transaction) (s : State) → Q s → Q (moveTo n t s)
   unfolding moveTo
   goes-on n t s h = C .moving _ s h
@@ -220,6 +223,7 @@ module _ (Q : State → Type 0) (C : Closed Q) where
   unfolding resume toFel
   resume-kept i f s h = C .fel _ _ (C .serial _ _ (C .interrupted _ s h))
 
+  -- the walk: of each kind the changes of the state that it is made of
   pub effect-kept : (m : BlockModel) (b : Block) (t : Transaction) (s : State) → Q s → Q (effect m b t s)
   unfolding effect setContent takeUnits
   effect-kept m (generate list p) t s h = goes-on _ t _ (arrival-kept _ list p _ _ (enters-kept t s h))

@@ -9,6 +9,7 @@ use our.runs.Everybody.{Maybe, Everybody, Unmoved, toRel-everybody, waitQl-every
 
 -- ---- Question 7: behind a block that lets its transaction go on stands another
 
+-- behind a block that does not leave the line stands another block
 pub goes-on : (left : Bool) (l : List Block) (i : ℕ) → T (wellPlaced left l) → i < length l
     → facts (getD l i (terminate 0)) .leaves ≡ false → suc i < length l
 unfolding wellPlaced

@@ -199,7 +199,8 @@ module _ (m : BlockModel) where
         let r = reached budget room steps (start m tape) in
         let k : r .count ≡ run m tape budget room .turns =
         sym
-        (ap (λ x. x .turns) (r .is) ∙ turned-follows (r .count) (start m tape) .0 ∙ ap (λ n. r .count + n) (start-turns tape) ∙ omega arith) in
+        (ap (λ x. x .turns) (r .is) ∙ turned-follows (r .count) (start m tape) .0 ∙ ap (λ n. r .count + n) (start-turns tape)
+        ∙ omega arith) in
         r .is ∙ ap (λ n. setEnd (run m tape budget room .end) (turned n (start m tape))) k
 
     module _ (budget room budget′ room′ : ℕ) where

@@ -13,6 +13,7 @@ at-end : (I : State → Type 0) (front : List State) (s : State) → Each I (fro
 at-end I [] s h = h .0
 at-end I (x ∷ l) s h = at-end I l s (h .1)
 
+-- the last of the states is one of them
 pub each-last : (I : State → Type 0) {s : State} {l : List State} → Ends s l → Each I l → I s
 each-last I {s} e h = at-end I (e .front) s (rw (e .all) at h)
 
@@ -38,6 +39,7 @@ pub data Before (budget room : ℕ) (s : State) : ℕ → Type 0 where
   own : (s .end ≡ 0 → ⊥) → Before budget room s (s .end)
   closing : {e : ℕ} → Closing s (suc e) → Before budget room s (suc e)
 
+-- every way in which the run goes on or ends before a turn, by what was asked first
 pub before : (budget room : ℕ) (s : State) → Before budget room s (endBefore budget room s)
 unfolding endBefore
 before budget room s =

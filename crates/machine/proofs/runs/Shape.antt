@@ -110,6 +110,7 @@ module _ {m : BlockModel} {w : View} {ql wel : List (List Transaction)} {gathere
   unfolding serverAt idleServer
   capacity-at v = sym (List·getD-map capacityOf (w .servers) (v - 1) (idleServer 0)) ∙ ap (λ l. nth l v 0) (h .capacities)
 
+  -- a facility is a server of one unit
   pub facility-capacity : (v : ℕ) → 1 ≤ v → v ≤ m .facilities → serverAt w v .capacity ≡ 1
   facility-capacity v low high =
       capacity-at v ∙ List·getD-append (replicate (m .facilities) 1) (m .capacities) 0 (v - 1) (simp length-replicate (omega arith))
@@ -165,6 +166,7 @@ module _ {m : BlockModel} {w : View} {ql wel : List (List Transaction)} {gathere
         within = h .within;
       }
 
+  -- the one change of a server that a claim of its size must allow for
   pub shape-units : (v n holder : ℕ) (preempted : Bool) → n ≤ serverAt w v .capacity
       → Shaped m (setServers (setNth (w .servers) v (withUse n holder preempted (serverAt w v))) w) ql wel gatherers samples
   unfolding serverAt
@@ -232,6 +234,7 @@ module _ {m : BlockModel} {w : View} {ql wel : List (List Transaction)} {gathere
         within = h .within;
       }
 
+  -- sampling changes sums alone
   pub shape-clock : (time ticks : ℕ)
       → Shaped m
       (setClock time
