@@ -63,7 +63,11 @@ fn play(
     requires { ⌜ model .facilities ≤ maxFacilities ⌝ }
     requires { ⌜ model .blocks ≤ maxBlocks ⌝ }
     requires { ⌜ Room (now work) ⌝ }
-    ensures { λ r. ⌜ traced (rowsOf r (now (work .exit)) (now (tally .exit))) (now (trace .exit)) ≡ turnsRows model (now (tables .entry)) (now (tape .entry)) budget (length (now (trace .entry))) (traced (startRows model (now (tables .entry)) (now (tape .entry)) (now (lists .entry)) (now (work .entry)) (now (tally .entry))) (now (trace .entry))) ⌝ }
+    ensures { λ r. ⌜
+        traced (rowsOf r (now (work .exit)) (now (tally .exit))) (now (trace .exit))
+        ≡ turnsRows model (now (tables .entry)) (now (tape .entry)) budget (length (now (trace .entry)))
+        (traced (startRows model (now (tables .entry)) (now (tape .entry)) (now (lists .entry)) (now (work .entry)) (now (tally .entry)))
+        (now (trace .entry))) ⌝ }
 {
     let x = begin(model, tables, tape, lists, work, tally);
     turns(model, tables, tape, budget, work, tally, trace, x)
@@ -79,7 +83,9 @@ fn reported(
     report: &mut [u8],
 ) -> usize
     requires { ⌜ Room (now work) ⌝ }
-    ensures { λ r. ⌜ written r (now (report .exit)) ≡ putAll (rowNumbers model (now (tables .entry)) (now (tally .entry)) (now (work .entry)) x) (written 0 (now (report .entry))) ⌝ }
+    ensures { λ r. ⌜
+        written r (now (report .exit)) ≡ putAll (rowNumbers model (now (tables .entry)) (now (tally .entry)) (now (work .entry)) x)
+        (written 0 (now (report .entry))) ⌝ }
 {
     write_report(model, tables, tally, work, x, report)
 }
@@ -98,7 +104,10 @@ pub fn accepted(
     requires { ⌜ model .facilities ≤ maxFacilities ⌝ }
     requires { ⌜ model .blocks ≤ maxBlocks ⌝ }
     requires { ⌜ Room (now work) ⌝ }
-    ensures { λ r. ⌜ Finishes model (now (tables .entry)) (lastRows model (now (tables .entry)) (now (lists .entry)) (now (tape .entry)) budget (now (work .entry)) (now (trace .entry))) (now (report .entry)) r (now (trace .exit)) (now (report .exit)) ⌝ }
+    ensures { λ r. ⌜
+        Finishes model (now (tables .entry))
+        (lastRows model (now (tables .entry)) (now (lists .entry)) (now (tape .entry)) budget (now (work .entry)) (now (trace .entry)))
+        (now (report .entry)) r (now (trace .exit)) (now (report .exit)) ⌝ }
 {
     let mut tally = [0u64; TALLY];
     let x = play(model, tables, lists, tape, budget, work, &mut tally, trace);

@@ -24,7 +24,10 @@ ghost use Rattle.engine_laws.specs.Turns.{turnsLeft, Onward, WhereAllWait, Wher
 // Their turns, at most `left`, to a block where everybody waits; answers how many turns are done then.
 fn stay_all(work: &mut [u32], budget: u64, room: usize, x: Scalars, block: u32, left: u32) -> u32
     requires { ⌜ Room (now work) ⌝ }
-    ensures { λ r. ⌜ WhereAllWait block x (λ model tables tape tally trace. Onward model tables tape trace budget room x left (now (work .entry)) tally r (now (work .exit)) tally) ⌝ }
+    ensures { λ r. ⌜
+        WhereAllWait block x
+        (λ model tables tape tally trace. Onward model tables tape trace budget room x left (now (work .entry)) tally r
+        (now (work .exit)) tally) ⌝ }
     ensures least { λ r. ⌜ x .turns ≤ r ⌝ }
     ensures most { λ r. ⌜ r ≤ x .turns + left ⌝ }
 {
@@ -77,7 +80,10 @@ fn queue_all(
     left: u32,
 ) -> u32
     requires { ⌜ Room (now work) ⌝ }
-    ensures { λ r. ⌜ WhereEnter (now (tables .entry)) block x (λ model tape trace. Onward model (now (tables .entry)) tape trace budget room x left (now (work .entry)) (now (tally .entry)) r (now (work .exit)) (now (tally .exit))) ⌝ }
+    ensures { λ r. ⌜
+        WhereEnter (now (tables .entry)) block x
+        (λ model tape trace. Onward model (now (tables .entry)) tape trace budget room x left (now (work .entry)) (now (tally .entry)) r
+        (now (work .exit)) (now (tally .exit))) ⌝ }
     ensures least { λ r. ⌜ x .turns ≤ r ⌝ }
     ensures most { λ r. ⌜ r ≤ x .turns + left ⌝ }
 {
@@ -108,7 +114,9 @@ pub fn herd(
     left: u32,
 ) -> u32
     requires { ⌜ Room (now work) ⌝ }
-    ensures { λ r. ⌜ ((tape trace : List ℕ) → Onward model (now (tables .entry)) tape trace budget room x left (now (work .entry)) (now (tally .entry)) r (now (work .exit)) (now (tally .exit))) ⌝ }
+    ensures { λ r. ⌜
+        ((tape trace : List ℕ) → Onward model (now (tables .entry)) tape trace budget room x left (now (work .entry)) (now (tally .entry)) r
+        (now (work .exit)) (now (tally .exit))) ⌝ }
     ensures least { λ r. ⌜ x .turns ≤ r ⌝ }
     ensures most { λ r. ⌜ r ≤ x .turns + left ⌝ }
 {

@@ -1,5 +1,5 @@
-// The engine: one run of a model on a tape (document 01), from bytes to trace, report and eight numbers. specs/Contract of engine_laws has what
-// `run` promises for all inputs and buffer lengths.
+// The engine: one run of a model on a tape (document 01), from bytes to trace, report and eight numbers. specs/Contract of engine_laws has
+// what `run` promises for all inputs and buffer lengths.
 mod ends;
 mod finish;
 mod herds;
@@ -23,7 +23,9 @@ pub fn run(
     trace: &mut [u8],
     report: &mut [u8],
 ) -> Outcome
-    ensures { λ r. ⌜ Contract (now (model .entry)) (now (tape .entry)) budget (now (work .entry)) (now (trace .entry)) (now (report .entry)) r (now (work .exit)) (now (trace .exit)) (now (report .exit)) ⌝ }
+    ensures { λ r. ⌜
+        Contract (now (model .entry)) (now (tape .entry)) budget (now (work .entry)) (now (trace .entry)) (now (report .entry)) r
+        (now (work .exit)) (now (trace .exit)) (now (report .exit)) ⌝ }
 {
     let mut tables = [0u32; TABLES];
     let mut lists = [0u64; LIST_CELLS];

@@ -30,7 +30,10 @@ pub fn turns(
     requires { ⌜ model .facilities ≤ maxFacilities ⌝ }
     requires { ⌜ model .blocks ≤ maxBlocks ⌝ }
     requires { ⌜ Room (now work) ⌝ }
-    ensures { λ r. ⌜ traced (rowsOf r (now (work .exit)) (now (tally .exit))) (now (trace .exit)) ≡ turnsRows model (now (tables .entry)) (now (tape .entry)) budget (length (now (trace .entry))) (traced (rowsOf x (now (work .entry)) (now (tally .entry))) (now (trace .entry))) ⌝ }
+    ensures { λ r. ⌜
+        traced (rowsOf r (now (work .exit)) (now (tally .exit))) (now (trace .exit))
+        ≡ turnsRows model (now (tables .entry)) (now (tape .entry)) budget (length (now (trace .entry)))
+        (traced (rowsOf x (now (work .entry)) (now (tally .entry))) (now (trace .entry))) ⌝ }
 {
     let mut y = x;
     let mut left = STEPS;

@@ -10,14 +10,20 @@ refused-requires c κs = search needs
 
 accepted-requires : tie.Need-accepted-requires
 accepted-requires c κs =
-    let with = c .before .before .before .before .before .before .before .before .before .before .before .before .before .before .before .before .args in
-    let call = c .before .before .before .before .before .before .before .before .decode in
-    fits (with .model .now) (with .tape .now) (with .budget) (with .work .now) (with .trace .now) (with .report .now) (call .last .1 .1 .1 .1 .0)
-    (call .last .1 .1 .1 .1 .1 .0) (call .result) (call .ensures) _ (c .before .before .before .before .before .before .decoded2 .given .1)
+    let at-decoded2 : tie.After-decoded2 = search in
+    let at-decode : tie.After-decode = search in
+    let start : tie.Start = search in
+    let with = start .args in
+    let call = at-decode .decode in
+    fits (with .model .now) (with .tape .now) (with .budget) (with .work .now) (with .trace .now) (with .report .now)
+    (call .last .1 .1 .1 .1 .0)
+    (call .last .1 .1 .1 .1 .1 .0) (call .result) (call .ensures) _ (at-decoded2 .decoded2 .given .1)
 
-returns : tie.Need-returns
-returns c =
-    run-refused _ _ _ _ _ _ _ _ _ (c .before .before .before .before .decode .ensures) _ _ (c .before .before .decoded .given .1) (c .refused .ensures)
+returns-refused : tie.Need-returns
+returns-refused c =
+    let at-decoded : tie.After-decoded = search in
+    let at-decode : tie.After-decode = search in
+    run-refused _ _ _ _ _ _ _ _ _ (at-decode .decode .ensures) _ _ (at-decoded .decoded .given .1) (c .refused .ensures)
 
 same-length : tie.Need-same-length
 same-length c = search needs
@@ -28,11 +34,14 @@ same-length-2 c = search needs
 same-length-3 : tie.Need-same-length-3
 same-length-3 c = search needs
 
-returns-2 : tie.Need-returns-2
-returns-2 c =
-    run-finished _ _ _ _ _ _ _ _ _ (c .before .before .before .before .before .before .before .before .before .before .before .before .before .before .before .decode .ensures) _
-    (c .before .before .before .before .before .before .before .before .before .before .before .before .before .decoded2 .given .1) _ _ _ _
-    (c .before .before .before .before .before .before .accepted .ensures)
+returns-model : tie.Need-returns-2
+returns-model c =
+    let at-accepted : tie.After-accepted = search in
+    let at-decoded2 : tie.After-decoded2 = search in
+    let at-decode : tie.After-decode = search in
+    run-finished _ _ _ _ _ _ _ _ _ (at-decode .decode .ensures) _
+    (at-decoded2 .decoded2 .given .1) _ _ _ _
+    (at-accepted .accepted .ensures)
 
 pub run-spec : {M : Type 1} → statement M
 run-spec =
@@ -43,8 +52,8 @@ run-spec =
     refused-requires
     (search needs)
     accepted-requires
-    returns
+    returns-refused
     same-length
     same-length-2
     same-length-3
-    returns-2)
+    returns-model)
