@@ -13,6 +13,7 @@ use lib.Ieee.Digits.{size-le}
 use lib.Ieee.Nearest.{closest}
 use lib.Ieee.Order.{drop}
 use lib.Ieee.Scale.{grid}
+use native.Mathlib.Nat.{mul-assoc, mul-left-comm}
 
 -- ---- The nearest whole number is off by half at most
 
@@ -36,9 +37,13 @@ HalfOff g u n = (2 * (g * u) ≤ 2 * n + u) × (2 * n ≤ 2 * (g * u) + u)
 
 half-off : (q r u : ℕ) (o : Ordering) → Compared o (r * 2) u → r < u → HalfOff (nearest q o) u (q * u + r)
 half-off q r u Ordering·lt h s = omega arith
-half-off q r u Ordering·eq h s = (let more : (q % 2) * u ≤ 1 * u = mul-le-mul-right u (omega arith) in
-    rw add-mul (omega arith))
-half-off q r u Ordering·gt h s = rw suc-mul (omega arith)
+half-off q r u Ordering·eq h s = odd (q % 2) (omega arith)
+  where
+    odd : (t : ℕ) → t < 2 → HalfOff (q + t) u (q * u + r)
+    odd t k =
+        let more : t * u ≤ 1 * u = mul-le-mul-right u (omega arith) in
+        rw (add-mul q t u) (omega arith)
+half-off q r u Ordering·gt h s = rw (suc-mul q u) (omega arith)
 
 closest-off : (n u : ℕ) → 0 < u → HalfOff (closest n u) u n
 closest-off n u p =
@@ -51,8 +56,10 @@ module _ (f : Format) (a c d : ℕ) (pos : 0 < c) (below : a < 2 ^ d * c) where
   dropped : drop (prec f) (a * 2 ^ low f) c ≤ d + low f - prec f
   dropped =
       let l = 2 ^ low f in
-      let s : size (a * l / c) ≤ d + low f = size-le (a * l / c) (d + low f) (div-lt-iff-lt-mul pos .1 (lt-of-lt-of-le (mul-lt-mul-of-pos-right below (pow-pos (low f)))
-      (le-of-eq (mul-right-comm (2 ^ d) c l ∙ ap (λ (x : ℕ). x * c) (sym (pow-add 2 d (low f))))))) in
+      let h : a * l < 2 ^ (d + low f) * c =
+      lt-of-lt-of-le (mul-lt-mul-of-pos-right below (pow-pos (low f)))
+      (le-of-eq (mul-right-comm (2 ^ d) c l ∙ ap (λ (x : ℕ). x * c) (sym (pow-add 2 d (low f))))) in
+      let s : size (a * l / c) ≤ d + low f = size-le (a * l / c) (d + low f) (div-lt-iff-lt-mul pos .1 h) in
       omega arith
 
   -- and what it rounds to, in units, is off by half of 2 ^ (d - prec) at most
@@ -61,7 +68,12 @@ module _ (f : Format) (a c d : ℕ) (pos : 0 < c) (below : a < 2 ^ d * c) where
   grid-off =
       let n = a * 2 ^ low f in
       let k = drop (prec f) n c in
-      let off = closest-off n _ (mul-pos pos (pow-pos k)) in
-      let m =
-      le-trans (le-of-eq (mul-comm c _)) (mul-le-mul-right c (pow-mono dropped)) in
-      omega arith
+      let off = closest-off n (c * 2 ^ k) (mul-pos pos (pow-pos k)) in
+      let e : closest n (c * 2 ^ k) * (c * 2 ^ k) ≡ grid f a c * c = simp (mul-assoc, mul-comm, mul-left-comm) in
+      let m : c * 2 ^ k ≤ 2 ^ (d + low f - prec f) * c =
+      le-trans (le-of-eq (mul-comm c (2 ^ k))) (mul-le-mul-right c (pow-mono dropped)) in
+      let o : HalfOff (closest n (c * 2 ^ k)) (c * 2 ^ k) n = off in
+      go (closest n (c * 2 ^ k) * (c * 2 ^ k)) (grid f a c * c) n (c * 2 ^ k) (2 ^ (d + low f - prec f) * c) e m (o .0) (o .1)
+    where
+      go : (x y n u w : ℕ) → x ≡ y → u ≤ w → 2 * x ≤ 2 * n + u → 2 * n ≤ 2 * x + u → (2 * y ≤ 2 * n + w) × (2 * n ≤ 2 * y + w)
+      go x y n u w e m lo hi = omega arith

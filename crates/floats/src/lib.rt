@@ -86,7 +86,9 @@ pub fn fraction(v: u32) -> f64
 // The time on a segment at u.
 pub fn interpolate(s: Segment, u: f64) -> f64
     ensures { λ r. ⌜ r ≡ lineDouble (s .u0) (s .time0) (s .u1) (s .time1) u ⌝ }
-    ensures near { λ r. ⌜ ((v0 t0 v1 t1 v : ℕ) → Ends (s .u0) (s .time0) (s .u1) (s .time1) v0 t0 v1 t1 → Is u v drawParts → v0 ≤ v → v ≤ v1 → OnLine r (lineOver v0 t0 v1 t1 v) (lineUnder v0 v1)) ⌝ }
+    ensures near { λ r. ⌜
+        ((v0 t0 v1 t1 v : ℕ) → Ends (s .u0) (s .time0) (s .u1) (s .time1) v0 t0 v1 t1 → Is u v drawParts → v0 ≤ v → v ≤ v1
+        → OnLine r (lineOver v0 t0 v1 t1 v) (lineUnder v0 v1)) ⌝ }
 {
     s.time0 + ((s.time1 - s.time0) * (u - s.u0)) / (s.u1 - s.u0)
 }
@@ -94,7 +96,8 @@ pub fn interpolate(s: Segment, u: f64) -> f64
 // The time of a spread at u.
 pub fn spread(mean: f64, half: f64, u: f64) -> f64
     ensures { λ r. ⌜ r ≡ spreadDouble mean half u ⌝ }
-    ensures exact { λ r. ⌜ ((m h v : ℕ) → Width mean half m h → Is u v drawParts → v ≤ drawParts → Exactly r (spreadOver m h v) spreadUnder) ⌝ }
+    ensures exact { λ r. ⌜
+        ((m h v : ℕ) → Width mean half m h → Is u v drawParts → v ≤ drawParts → Exactly r (spreadOver m h v) spreadUnder) ⌝ }
 {
     mean - half + 2.0 * half * u
 }

@@ -5,5 +5,10 @@ use lib.Ieee.{ofBits}
 use borrow.Author.Needs.{needs}
 use Rattle.floats.proofs.draw_parts as f
 
+returns : f.Tie.Need-returns
+unfolding ofBits
+returns c =
+    c .count-parts .ensures 16 (lit≤ tt) refl
+
 pub draw-parts-spec : {M : Type 1} → f.Statement.statement M
-draw-parts-spec = f.Tie.close (f.Tie.spec (search needs) (λ c. unfold ofBits in c .count-parts .ensures 16 (lit≤ tt) refl))
+draw-parts-spec = f.Tie.close (f.Tie.spec (search needs) returns)

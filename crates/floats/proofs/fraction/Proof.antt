@@ -8,5 +8,10 @@ use our.Checked.{part}
 use our.fraction as f
 use borrow.Author.Needs.{needs}
 
+returns : f.Tie.Need-returns
+unfolding ofBits
+returns c =
+    part _ 16 _ (omega arith) (lit≤ tt) refl
+
 pub fraction-spec : {M : Type 1} → f.Statement.statement M
-fraction-spec = f.Tie.close (f.Tie.spec (search needs) (λ c. unfold ofBits in part _ 16 _ (omega arith) (lit≤ tt) refl))
+fraction-spec = f.Tie.close (f.Tie.spec (search needs) returns)

@@ -5,5 +5,10 @@ use Rattle.floats.proofs as our
 use our.Lines.{spread-exactly}
 use our.spread as f
 
+returns : f.Tie.Need-returns
+unfolding spreadDouble
+returns c =
+    (refl, λ m h v width u inside. spread-exactly _ _ _ m h v width u inside)
+
 pub spread-spec : {M : Type 1} → f.Statement.statement M
-spread-spec = f.Tie.close (f.Tie.spec (λ c. unfold spreadDouble in (refl, λ m h v width u inside. spread-exactly _ _ _ m h v width u inside)))
+spread-spec = f.Tie.close (f.Tie.spec returns)
