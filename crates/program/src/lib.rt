@@ -48,7 +48,8 @@ pub fn single(
     plus: usize,
 ) -> Stored
     requires { ⌜ (to < tablesSize) × Fits lo hi plus ⌝ }
-    ensures { λ r. ⌜ Stores (numberShape lo hi plus) p to (now (tables .entry)) (now (tables .exit)) r (field (now (s .entry)) 3 lo hi (cursorOf p)) ⌝ }
+    ensures { λ r. ⌜
+        Stores (numberShape lo hi plus) p to (now (tables .entry)) (now (tables .exit)) r (field (now (s .entry)) 3 lo hi (cursorOf p)) ⌝ }
 {
     match keep(s, tables, to, p, lo, hi, plus) {
         Taken::Refused(n) => Stored::Refused(n),
@@ -66,7 +67,9 @@ fn pair(
     second: Range,
 ) -> Stored
     requires { ⌜ (to + 1 < tablesSize) × Fits (first .lo) (first .hi) (first .plus) × Fits (second .lo) (second .hi) (second .plus) ⌝ }
-    ensures { λ r. ⌜ Stores (pairShape first second) p to (now (tables .entry)) (now (tables .exit)) r (pairField (now (s .entry)) first second (cursorOf p)) ⌝ }
+    ensures { λ r. ⌜
+        Stores (pairShape first second) p to (now (tables .entry)) (now (tables .exit)) r
+        (pairField (now (s .entry)) first second (cursorOf p)) ⌝ }
 {
     match keep(s, tables, to, p, first.lo, first.hi, first.plus) {
         Taken::Refused(n) => Stored::Refused(n),
@@ -83,7 +86,9 @@ fn wide(x: u32) -> usize
 // A storage and 1..capacity units of it, for ENTER and LEAVE.
 fn units(s: &[u8], tables: &mut [u32; TABLES], to: usize, m: Model, p: Place) -> Stored
     requires { ⌜ (to + 1 < programSize) × Within m ⌝ }
-    ensures { λ r. ⌜ Stores (unitsShape (countsOf m)) p to (now (tables .entry)) (now (tables .exit)) r (unitsField (now (s .entry)) (countsOf m) (capacitiesOf m (now (tables .entry))) (cursorOf p)) ⌝ }
+    ensures { λ r. ⌜
+        Stores (unitsShape (countsOf m)) p to (now (tables .entry)) (now (tables .exit)) r
+        (unitsField (now (s .entry)) (countsOf m) (capacitiesOf m (now (tables .entry))) (cursorOf p)) ⌝ }
 {
     match keep(s, tables, to, p, 1, m.storages, m.facilities) {
         Taken::Refused(n) => Stored::Refused(n),
@@ -97,7 +102,8 @@ fn units(s: &[u8], tables: &mut [u32; TABLES], to: usize, m: Model, p: Place) ->
 // A code and a server: a facility for codes 1 and 2, else a storage.
 fn watched(s: &[u8], tables: &mut [u32; TABLES], to: usize, m: Model, p: Place) -> Stored
     requires { ⌜ (to + 1 < tablesSize) × Within m ⌝ }
-    ensures { λ r. ⌜ Stores watchedShape p to (now (tables .entry)) (now (tables .exit)) r (watchedField (now (s .entry)) (countsOf m) (cursorOf p)) ⌝ }
+    ensures { λ r. ⌜
+        Stores watchedShape p to (now (tables .entry)) (now (tables .exit)) r (watchedField (now (s .entry)) (countsOf m) (cursorOf p)) ⌝ }
 {
     match keep(s, tables, to, p, 1, CODES, 0) {
         Taken::Refused(n) => Stored::Refused(n),
@@ -113,7 +119,9 @@ fn watched(s: &[u8], tables: &mut [u32; TABLES], to: usize, m: Model, p: Place) 
 // A joined WAITIF: code, server, back count.
 fn joined_wait(s: &[u8], tables: &mut [u32; TABLES], to: usize, m: Model, p: Place) -> Stored
     requires { ⌜ (to + 2 < tablesSize) × Within m ⌝ }
-    ensures { λ r. ⌜ Stores (operandsShape (m .blocks) joinedKind) p to (now (tables .entry)) (now (tables .exit)) r (operandsField (now (s .entry)) (countsOf m) (capacitiesOf m (now (tables .entry))) joinedKind (cursorOf p)) ⌝ }
+    ensures { λ r. ⌜
+        Stores (operandsShape (m .blocks) joinedKind) p to (now (tables .entry)) (now (tables .exit)) r
+        (operandsField (now (s .entry)) (countsOf m) (capacitiesOf m (now (tables .entry))) joinedKind (cursorOf p)) ⌝ }
 {
     match watched(s, tables, to, m, p) {
         Stored::Refused(n) => Stored::Refused(n),
@@ -124,7 +132,9 @@ fn joined_wait(s: &[u8], tables: &mut [u32; TABLES], to: usize, m: Model, p: Pla
 // A term, a relation and a term.
 fn compared(s: &[u8], tables: &mut [u32; TABLES], to: usize, m: Model, p: Place) -> Stored
     requires { ⌜ (to + 4 < tablesSize) × Within m ⌝ }
-    ensures { λ r. ⌜ Stores comparedShape p to (now (tables .entry)) (now (tables .exit)) r (comparedField (now (s .entry)) (countsOf m) (cursorOf p)) ⌝ }
+    ensures { λ r. ⌜
+        Stores comparedShape p to (now (tables .entry)) (now (tables .exit)) r
+        (comparedField (now (s .entry)) (countsOf m) (cursorOf p)) ⌝ }
 {
     match block_term(s, tables, to, m, p) {
         Stored::Refused(n) => Stored::Refused(n),
@@ -138,7 +148,9 @@ fn compared(s: &[u8], tables: &mut [u32; TABLES], to: usize, m: Model, p: Place)
 // IF left, relation, right, target.
 fn branch(s: &[u8], tables: &mut [u32; TABLES], to: usize, m: Model, p: Place) -> Stored
     requires { ⌜ (to + 5 < tablesSize) × Within m ⌝ }
-    ensures { λ r. ⌜ Stores (operandsShape (m .blocks) branchKind) p to (now (tables .entry)) (now (tables .exit)) r (operandsField (now (s .entry)) (countsOf m) (capacitiesOf m (now (tables .entry))) branchKind (cursorOf p)) ⌝ }
+    ensures { λ r. ⌜
+        Stores (operandsShape (m .blocks) branchKind) p to (now (tables .entry)) (now (tables .exit)) r
+        (operandsField (now (s .entry)) (countsOf m) (capacitiesOf m (now (tables .entry))) branchKind (cursorOf p)) ⌝ }
 {
     match compared(s, tables, to, m, p) {
         Stored::Refused(n) => Stored::Refused(n),
@@ -149,7 +161,9 @@ fn branch(s: &[u8], tables: &mut [u32; TABLES], to: usize, m: Model, p: Place) -
 // LET parameter, term.
 fn assign(s: &[u8], tables: &mut [u32; TABLES], to: usize, m: Model, p: Place) -> Stored
     requires { ⌜ (to + 2 < tablesSize) × Within m ⌝ }
-    ensures { λ r. ⌜ Stores (operandsShape (m .blocks) assignKind) p to (now (tables .entry)) (now (tables .exit)) r (operandsField (now (s .entry)) (countsOf m) (capacitiesOf m (now (tables .entry))) assignKind (cursorOf p)) ⌝ }
+    ensures { λ r. ⌜
+        Stores (operandsShape (m .blocks) assignKind) p to (now (tables .entry)) (now (tables .exit)) r
+        (operandsField (now (s .entry)) (countsOf m) (capacitiesOf m (now (tables .entry))) assignKind (cursorOf p)) ⌝ }
 {
     match single(s, tables, to, p, 1, Model::PARAMETERS, 0) {
         Stored::Refused(n) => Stored::Refused(n),
@@ -173,7 +187,9 @@ fn operands(
     p: Place,
 ) -> Stored
     requires { ⌜ (to + 5 < programSize) × Within m × (kind ≤ inForce .kinds) × (1 ≤ kind) ⌝ }
-    ensures { λ r. ⌜ Stores (operandsShape (m .blocks) kind) p to (now (tables .entry)) (now (tables .exit)) r (operandsField (now (s .entry)) (countsOf m) (capacitiesOf m (now (tables .entry))) kind (cursorOf p)) ⌝ }
+    ensures { λ r. ⌜
+        Stores (operandsShape (m .blocks) kind) p to (now (tables .entry)) (now (tables .exit)) r
+        (operandsField (now (s .entry)) (countsOf m) (capacitiesOf m (now (tables .entry))) kind (cursorOf p)) ⌝ }
 {
     match kind {
         1 => {
@@ -212,7 +228,9 @@ fn operands(
 // Block b (from 0).
 fn block(s: &[u8], tables: &mut [u32; TABLES], b: usize, m: Model, p: Place) -> Stored
     requires { ⌜ (b < maxBlocks) × Within m ⌝ }
-    ensures { λ r. ⌜ Stores (blockShape (m .blocks)) p (0 + blockWidth * b) (now (tables .entry)) (now (tables .exit)) r (blockField (now (s .entry)) (inForce .kinds) (countsOf m) (capacitiesOf m (now (tables .entry))) (cursorOf p)) ⌝ }
+    ensures { λ r. ⌜
+        Stores (blockShape (m .blocks)) p (0 + blockWidth * b) (now (tables .entry)) (now (tables .exit)) r
+        (blockField (now (s .entry)) (inForce .kinds) (countsOf m) (capacitiesOf m (now (tables .entry))) (cursorOf p)) ⌝ }
 {
     let to = BLOCK_WIDTH * b;
     match keep(s, tables, to, p, 1, KINDS, 1) {
@@ -224,7 +242,10 @@ fn block(s: &[u8], tables: &mut [u32; TABLES], b: usize, m: Model, p: Place) -> 
 // All blocks.
 pub fn blocks(s: &[u8], tables: &mut [u32; TABLES], m: Model, p: Place) -> Stored
     requires { ⌜ Within m ⌝ }
-    ensures { λ r. ⌜ Filled (blockShape (m .blocks)) (Formed (m .blocks)) blockWidth 0 p (now (tables .entry)) (now (tables .exit)) r (times (m .blocks) (blockField (now (s .entry)) (inForce .kinds) (countsOf m) (capacitiesOf m (now (tables .entry)))) (cursorOf p)) ⌝ }
+    ensures { λ r. ⌜
+        Filled (blockShape (m .blocks)) (Formed (m .blocks)) blockWidth 0 p (now (tables .entry)) (now (tables .exit)) r
+        (times (m .blocks) (blockField (now (s .entry)) (inForce .kinds) (countsOf m) (capacitiesOf m (now (tables .entry)))) (cursorOf p))
+        ⌝ }
 {
     let mut b = 0;
     let mut q = p;

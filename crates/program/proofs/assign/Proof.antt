@@ -4,6 +4,17 @@ use our.Steps.{assign-stop, assign-kept}
 use our.assign as f
 use Rattle.machine.specs.All.{needs}
 
+returns-refused : f.Tie.Need-returns
+returns-refused c =
+    let at-single : f.Tie.After-single = search in
+    assign-stop _ _ _ (at-single .single .ensures) _ (c .before .n .given .1)
+
+returns-done : f.Tie.Need-returns-2
+returns-done c =
+    let at-q : f.Tie.After-q = search in
+    let at-single : f.Tie.After-single = search in
+    assign-kept _ _ _ (at-single .single .ensures) (at-q .q .given .1) (c .block-term .ensures)
+
 pub assign-spec : {M : Type 1} → f.Statement.statement M
 assign-spec =
     f.Tie.close
@@ -13,5 +24,5 @@ assign-spec =
     (search needs)
     (search needs)
     (search needs)
-    (λ c. assign-stop _ _ _ (c .before .before .before .single .ensures) _ (c .before .n .given .1))
-    (λ c. assign-kept _ _ _ (c .before .before .before .before .before .single .ensures) (c .before .before .before .q .given .1) (c .block-term .ensures)))
+    returns-refused
+    returns-done)

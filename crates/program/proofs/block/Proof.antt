@@ -7,22 +7,29 @@ use our.block as f
 
 operands-requires : f.Tie.Need-operands-requires
 operands-requires c κs =
-    let b = c .before .before .before .before in
-    let h = b .keep .ensures .1 _ _ (c .before .before .kind .given .1) in (omega arith, b .before .before .before .pre .1, h .1, h .0)
+    let at-kind : f.Tie.After-kind = search in
+    let at-keep : f.Tie.After-keep = search in
+    let start : f.Tie.Start = search in
+    let h = at-keep .keep .ensures .1 _ _ (at-kind .kind .given .1) in (omega arith, start .pre .1, h .1, h .0)
 
-returns : f.Tie.Need-returns
-returns c =
-    let d = c .before .before .before in
-    let z : 0 + 8 * d .before .before .before .args .b ≡ 8 * d .before .before .before .args .b = omega arith in rw z (block-stop _ _ _ (d .keep .ensures .0) _ (c .before .n .given .1))
+returns-refused : f.Tie.Need-returns
+returns-refused c =
+    let at-keep : f.Tie.After-keep = search in
+    let start : f.Tie.Start = search in
+    let z : 0 + 8 * start .args .b ≡ 8 * start .args .b = omega arith in
+    rw z (block-stop _ _ _ (at-keep .keep .ensures .0) _ (c .before .n .given .1))
 
-returns-2 : f.Tie.Need-returns-2
-returns-2 c =
-    let b₁ = c .before .before .before in
-    let d = b₁ .before .before .before .before .before in
-    let z : 0 + 8 * d .args .b ≡ 8 * d .args .b = omega arith in
+returns-number : f.Tie.Need-returns-2
+returns-number c =
+    let at-kind : f.Tie.After-kind = search in
+    let at-keep : f.Tie.After-keep = search in
+    let start : f.Tie.Start = search in
+    let z : 0 + 8 * start .args .b ≡ 8 * start .args .b = omega arith in
     rw z
-    (block-kept _ _ _ (b₁ .before .before .keep .ensures .0) (b₁ .kind .given .1)
-    (λ cells. rw (ap (capacitiesOf (d .args .m)) cells ∙ capacities-kept (d .args .m) (b₁ .kind .given .0 .0 ∷ []) (d .args .tables .now) _ (omega arith)) at (c .operands .ensures)))
+    (block-kept _ _ _ (at-keep .keep .ensures .0) (at-kind .kind .given .1)
+    (λ cells. rw (ap (capacitiesOf (start .args .m)) cells
+    ∙ capacities-kept (start .args .m) (at-kind .kind .given .0 .0 ∷ []) (start .args .tables .now) _
+    (omega arith)) at (c .operands .ensures)))
 
 pub block-spec : {M : Type 1} → f.Statement.statement M
 block-spec =
@@ -34,5 +41,5 @@ block-spec =
     (search needs)
     (search needs)
     operands-requires
-    returns
-    returns-2)
+    returns-refused
+    returns-number)

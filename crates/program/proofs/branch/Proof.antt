@@ -4,6 +4,17 @@ use our.Steps.{branch-stop, branch-kept}
 use our.branch as f
 use Rattle.machine.specs.All.{needs}
 
+returns-refused : f.Tie.Need-returns
+returns-refused c =
+    let at-compared : f.Tie.After-compared = search in
+    branch-stop _ _ _ (at-compared .compared .ensures) _ (c .before .n .given .1)
+
+returns-done : f.Tie.Need-returns-2
+returns-done c =
+    let at-q : f.Tie.After-q = search in
+    let at-compared : f.Tie.After-compared = search in
+    branch-kept _ _ _ (at-compared .compared .ensures) (at-q .q .given .1) (c .single .ensures)
+
 pub branch-spec : {M : Type 1} → f.Statement.statement M
 branch-spec =
     f.Tie.close
@@ -13,5 +24,5 @@ branch-spec =
     (search needs)
     (search needs)
     (search needs)
-    (λ c. branch-stop _ _ _ (c .before .before .before .compared .ensures) _ (c .before .n .given .1))
-    (λ c. branch-kept _ _ _ (c .before .before .before .before .before .compared .ensures) (c .before .before .before .q .given .1) (c .single .ensures)))
+    returns-refused
+    returns-done)

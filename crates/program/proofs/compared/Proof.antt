@@ -4,15 +4,27 @@ use our.Steps.{compared-stop, compared-stop-2, compared-kept}
 use our.compared as f
 use Rattle.machine.specs.All.{needs}
 
-returns-2 : f.Tie.Need-returns-2
-returns-2 c =
-    let b = c .before .before .before in
-    compared-stop-2 _ _ (b .before .before .before .before .before .block-term .ensures) (b .before .before .before .left .given .1) (b .single .ensures) _ (c .before .n2 .given .1)
+returns-refused-block-term : f.Tie.Need-returns
+returns-refused-block-term c =
+    let at-block-term : f.Tie.After-block-term = search in
+    compared-stop _ _ (at-block-term .block-term .ensures) _ (c .before .n .given .1)
 
-returns-3 : f.Tie.Need-returns-3
-returns-3 c =
-    let b = c .before .before .before .before .before in
-    compared-kept _ _ (b .before .before .before .before .before .block-term .ensures) (b .before .before .before .left .given .1) (b .single .ensures) (c .before .before .before .q .given .1) (c .block-term2 .ensures)
+returns-refused-single : f.Tie.Need-returns-2
+returns-refused-single c =
+    let at-single : f.Tie.After-single = search in
+    let at-left : f.Tie.After-left = search in
+    let at-block-term : f.Tie.After-block-term = search in
+    compared-stop-2 _ _ (at-block-term .block-term .ensures) (at-left .left .given .1) (at-single .single .ensures) _
+    (c .before .n2 .given .1)
+
+returns-done : f.Tie.Need-returns-3
+returns-done c =
+    let at-q : f.Tie.After-q = search in
+    let at-single : f.Tie.After-single = search in
+    let at-left : f.Tie.After-left = search in
+    let at-block-term : f.Tie.After-block-term = search in
+    compared-kept _ _ (at-block-term .block-term .ensures) (at-left .left .given .1) (at-single .single .ensures) (at-q .q .given .1)
+    (c .block-term2 .ensures)
 
 pub compared-spec : {M : Type 1} → f.Statement.statement M
 compared-spec =
@@ -27,6 +39,6 @@ compared-spec =
     (search needs)
     (search needs)
     (search needs)
-    (λ c. compared-stop _ _ (c .before .before .before .block-term .ensures) _ (c .before .n .given .1))
-    returns-2
-    returns-3)
+    returns-refused-block-term
+    returns-refused-single
+    returns-done)

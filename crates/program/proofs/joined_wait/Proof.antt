@@ -4,6 +4,17 @@ use our.Steps.{joined-stop, joined-kept}
 use our.joined_wait as f
 use Rattle.machine.specs.All.{needs}
 
+returns-refused : f.Tie.Need-returns
+returns-refused c =
+    let at-watched : f.Tie.After-watched = search in
+    joined-stop _ _ _ (at-watched .watched .ensures) _ (c .before .n .given .1)
+
+returns-done : f.Tie.Need-returns-2
+returns-done c =
+    let at-q : f.Tie.After-q = search in
+    let at-watched : f.Tie.After-watched = search in
+    joined-kept _ _ _ (at-watched .watched .ensures) (at-q .q .given .1) (c .single .ensures)
+
 pub joined-wait-spec : {M : Type 1} → f.Statement.statement M
 joined-wait-spec =
     f.Tie.close
@@ -13,5 +24,5 @@ joined-wait-spec =
     (search needs)
     (search needs)
     (search needs)
-    (λ c. joined-stop _ _ _ (c .before .before .before .watched .ensures) _ (c .before .n .given .1))
-    (λ c. joined-kept _ _ _ (c .before .before .before .before .before .watched .ensures) (c .before .before .before .q .given .1) (c .single .ensures)))
+    returns-refused
+    returns-done)

@@ -6,28 +6,46 @@ use our.units as f
 
 sub-wide : f.Tie.Need-sub-wide
 sub-wide c =
-    let b = c .before .before .before .before in
-    omega (arith, b .before .before .before .pre .1 .storages, b .keep .ensures .1 _ _ (c .before .before .k .given .1))
+    let at-k : f.Tie.After-k = search in
+    let at-keep : f.Tie.After-keep = search in
+    let start : f.Tie.Start = search in
+    omega (arith, start .pre .1 .storages, at-keep .keep .ensures .1 _ _ (at-k .k .given .1))
 
 add-wide-2 : f.Tie.Need-add-wide-2
 add-wide-2 c =
-    let b = c .before .before .before .before in
-    omega (arith, b .before .before .before .pre .1 .storages, b .keep .ensures .1 _ _ (c .before .before .k .given .1))
+    let at-k : f.Tie.After-k = search in
+    let at-keep : f.Tie.After-keep = search in
+    let start : f.Tie.Start = search in
+    omega (arith, start .pre .1 .storages, at-keep .keep .ensures .1 _ _ (at-k .k .given .1))
 
 mul-wide : f.Tie.Need-mul-wide
 mul-wide c =
-    let b = c .before .before .before .before in
-    omega (arith, b .before .before .before .pre .1 .storages, b .keep .ensures .1 _ _ (c .before .before .k .given .1))
+    let at-k : f.Tie.After-k = search in
+    let at-keep : f.Tie.After-keep = search in
+    let start : f.Tie.Start = search in
+    omega (arith, start .pre .1 .storages, at-keep .keep .ensures .1 _ _ (at-k .k .given .1))
 
 element-copy-out-wide : f.Tie.Need-element-copy-out-wide
 element-copy-out-wide c =
-    let b = c .before .before .before .before in
-    omega (arith, b .before .before .before .pre .1 .storages, b .keep .ensures .1 _ _ (c .before .before .k .given .1))
+    let at-k : f.Tie.After-k = search in
+    let at-keep : f.Tie.After-keep = search in
+    let start : f.Tie.Start = search in
+    omega (arith, start .pre .1 .storages, at-keep .keep .ensures .1 _ _ (at-k .k .given .1))
 
-returns-2 : f.Tie.Need-returns-2
-returns-2 c =
-    let b = c .before .before .before .before .before .before in
-    units-kept _ (b .before .before .before .before .before .args .m) (b .before .before .keep .ensures .0) _ (b .k .given .1) (omega arith) (c .before .before .wide .ensures .0) (c .single .ensures)
+returns-refused : f.Tie.Need-returns
+returns-refused c =
+    let at-keep : f.Tie.After-keep = search in
+    let start : f.Tie.Start = search in
+    units-stop _ (start .args .m) (at-keep .keep .ensures .0) _ (c .before .n .given .1)
+
+returns-number : f.Tie.Need-returns-2
+returns-number c =
+    let at-wide : f.Tie.After-wide = search in
+    let at-k : f.Tie.After-k = search in
+    let at-keep : f.Tie.After-keep = search in
+    let start : f.Tie.Start = search in
+    units-kept _ (start .args .m) (at-keep .keep .ensures .0) _ (at-k .k .given .1) (omega arith) (at-wide .wide .ensures .0)
+    (c .single .ensures)
 
 pub units-spec : {M : Type 1} → f.Statement.statement M
 units-spec =
@@ -44,5 +62,5 @@ units-spec =
     (search needs)
     (search needs)
     (search needs)
-    (λ c. units-stop _ (c .before .before .before .before .before .before .args .m) (c .before .before .before .keep .ensures .0) _ (c .before .n .given .1))
-    returns-2)
+    returns-refused
+    returns-number)

@@ -12,13 +12,25 @@ Inv-loop tables blocks left₀ b₀ left b = (b ≤ blocks) × (placedFrom table
 abbrev μ-loop : f.Tie.MeasureT-loop
 μ-loop tables blocks left₀ b₀ left b = blocks - b
 
+returns-misplaced : f.Tie.Need-returns Inv-loop μ-loop
+returns-misplaced c =
+    let at-loop-test : f.Tie.In-loop Inv-loop μ-loop = search in
+    let at-loop : f.Tie.At-loop Inv-loop μ-loop = search in
+    placed-bad _ _ _ _ (at-loop-test .loop-test .taken) (cc (c .before .misplaced .ensures, c .if1 .taken)) ∙ at-loop .loop .inv .1
+
 loop-again : f.Tie.Need-loop-again Inv-loop μ-loop
 loop-again c =
-    let b = c .before .before in
-    (omega arith, rw (c .leaves .ensures) (placed-next _ _ _ _ (b .before .before .loop-test .taken) (cc (b .misplaced .ensures, c .before .if1 .left)) ∙ b .before .before .before .loop .inv .1))
+    let at-misplaced : f.Tie.After-misplaced Inv-loop μ-loop = search in
+    let at-loop-test : f.Tie.In-loop Inv-loop μ-loop = search in
+    let at-loop : f.Tie.At-loop Inv-loop μ-loop = search in (
+      omega arith,
+      rw (c .leaves .ensures)
+          (placed-next _ _ _ _ (at-loop-test .loop-test .taken) (cc (at-misplaced .misplaced .ensures, c .before .if1 .left))
+          ∙ at-loop .loop .inv .1),
+    )
 
-returns-2 : f.Tie.Need-returns-2 Inv-loop μ-loop
-returns-2 c = placed-end _ _ _ _ (c .loop-test .left) ∙ c .before .loop .inv .1
+returns-last : f.Tie.Need-returns-2 Inv-loop μ-loop
+returns-last c = placed-end _ _ _ _ (c .loop-test .left) ∙ c .before .loop .inv .1
 
 pub well-placed-spec : {M : Type 1} → f.Statement.statement M
 well-placed-spec =
@@ -31,9 +43,9 @@ well-placed-spec =
     (omega arith)
     (omega arith)
     (search needs)
-    (λ c. placed-bad _ _ _ _ (c .before .before .before .loop-test .taken) (cc (c .before .misplaced .ensures, c .if1 .taken)) ∙ c .before .before .before .before .loop .inv .1)
+    returns-misplaced
     (search needs)
     (omega arith)
     (omega arith)
     loop-again
-    returns-2)
+    returns-last)
