@@ -30,11 +30,11 @@ module _ (m : BlockModel) (tape : List (List ℕ)) where
           (cond b (getD (replicate (servers * 6) []) (q - 64) [])
           (cond c [] (cond d [] (cond e (map gathererRow (getD (replicate (length (m .blocks)) []) (q - 450) [])) [])))))
       go true b c d e = sym (same-at servers q [])
-      go false true c d e = sym (same-at (servers * 6) _ [])
+      go false true c d e = sym (same-at (servers * 6) (q - 64) [])
       go false false true d e = refl
       go false false false true e = refl
       go false false false false false = refl
-      go false false false false true = sym (ap (map gathererRow) (same-at (length (m .blocks)) _ []))
+      go false false false false true = sym (ap (map gathererRow) (same-at (length (m .blocks)) (q - 450) []))
 
   module _ (w : List ℕ) (room : 16384 ≤ length w) where
     begun : Shows (initial w) (λ p. []) []
@@ -48,9 +48,9 @@ module _ (m : BlockModel) (tape : List (List ℕ)) where
     unfolding idle
     idle-listing =
         record {
-          shows = shows-ext _ (λ p. []) _ [] [] no-lists refl begun;
+          shows = shows-ext (initial w) (λ p. []) (listsOf (idle m tape)) [] [] no-lists refl begun;
           mover = refl;
-          spare = omega (arith, population _ _ (λ p. []) [] (begun .shown), nobody, initial-loose w room);
+          spare = omega (arith, population (initial w) (begun .rows) (λ p. []) [] (begun .shown), nobody, initial-loose w room);
         }
 
   idle-counting : Proper m tape → Counting (startScalars (m .counter)) (idle m tape)
@@ -58,7 +58,7 @@ module _ (m : BlockModel) (tape : List (List ℕ)) where
   idle-counting proper =
       record {
         clock = refl;
-        counter = omega arith;
+        counter = omega (arith, proper .counter);
         serial = refl;
         made = refl;
         ended = refl;
@@ -78,7 +78,7 @@ begins : (b : Block) → Begins b
 begins b = go (kinds b)
   where
     past : {c : Block} → b ≡ c → Begins c → Begins b
-    past e h = rw e h
+    past e h = subst Begins (sym e) h
 
     go : Kinds b → Begins b
     go (generating list p e) = makes list p e
@@ -100,21 +100,30 @@ record Beginning (lists b : ℕ) (s : State) : Type 0 where
   samples : length (s .samples) ≡ lists
   given : Given s
 
-arrival-beginning : (lists b list p n : ℕ) (s : State) → Beginning lists b s → (l : List ℕ) → Beginning lists (suc b) (Moves.arrival l list p n s)
+arrival-beginning : (lists b list p n : ℕ) (s : State) → Beginning lists b s → (l : List ℕ)
+    → Beginning lists (suc b) (Moves.arrival l list p n s)
 unfolding Moves.arrival Moves.toFel
 arrival-beginning lists b list p n s h [] =
-    record { clock = h .clock; ended = h .ended; made = omega arith; serials = omega arith; samples = h .samples; given = h .given }
+    record {
+      clock = h .clock;
+      ended = h .ended;
+      made = omega (arith, h .made);
+      serials = omega (arith, h .serials);
+      samples = h .samples;
+      given = h .given;
+    }
 arrival-beginning lists b list p n s h (time ∷ left) =
     record {
       clock = h .clock;
       ended = h .ended;
-      made = omega arith;
-      serials = omega arith;
-      samples = length-set (s .samples) _ _ ∙ h .samples;
+      made = omega (arith, h .made);
+      serials = omega (arith, h .serials);
+      samples = length-set (s .samples) (list - 1) _ ∙ h .samples;
       given = with-fresh _ s (omega arith) (h .given);
     }
 
-module _ (m : BlockModel) (tape : List (List ℕ)) (tapeBytes tables lists : List ℕ) (proper : Proper m tape) (rep : Represents m tape tapeBytes tables lists) where
+module _ (m : BlockModel) (tape : List (List ℕ)) (tapeBytes tables lists : List ℕ) (proper : Proper m tape)
+    (rep : Represents m tape tapeBytes tables lists) where
   -- what holds after some blocks
   record Stood (b : ℕ) (r : Rows) (s : State) : Type 0 where
     stands : Stands tapeBytes r none s
@@ -122,41 +131,42 @@ module _ (m : BlockModel) (tape : List (List ℕ)) (tapeBytes tables lists : Lis
 
   module _ (b : ℕ) (inside : b < length (m .blocks)) (r : Rows) (s : State) (h : Stood b r s) where
     low : b < 256
-    low = omega arith
+    low = omega (arith, proper .blocks)
 
     placed : Names (length (m .blocks)) (suc b)
     placed = (omega arith, omega arith)
 
     few : length (s .samples) ≤ 16
-    few = omega arith
+    few = omega (arith, h .beginning .samples, proper .lists)
 
     -- number i of the block
-    number : (x : Block) → blockAt m (suc b) ≡ x → (i : ℕ) → i < length (blockNumbers x) → getD tables (8 * b + i) 0 ≡ getD (blockNumbers x) i 0
+    number : (x : Block) → blockAt m (suc b) ≡ x → (i : ℕ) → i < length (blockNumbers x)
+        → getD tables (8 * b + i) 0 ≡ getD (blockNumbers x) i 0
     number x is i hi =
         ap (λ (n : ℕ). getD tables (8 * n + i) 0) (omega arith)
-        ∙ operand m tape tapeBytes tables lists rep _ placed x is i hi
+        ∙ operand m tape tapeBytes tables lists rep (suc b) placed x is i hi
 
     module _ (list p : ℕ) (is : blockAt m (suc b) ≡ generate list p) where
       named : Names (m .lists) list × (p ≤ 127)
-      named = rw is at (proper .block (suc b))
+      named = subst (ProperBlock m) is (proper .block (suc b))
 
       there : list ≤ length (s .samples)
-      there = omega (arith, named .0 .1)
+      there = omega (arith, named .0 .1, h .beginning .samples)
 
       kind-is : getD tables (8 * b) 0 ≡ 1
       unfolding blockForms
-      kind-is = ap (λ (n : ℕ). getD tables n 0) (omega arith) ∙ number _ is 0 (omega arith)
+      kind-is = ap (λ (n : ℕ). getD tables n 0) (omega arith) ∙ number (generate list p) is 0 (omega arith)
 
       list-is : getD tables (8 * b + 1) 0 ≡ list - 1
       unfolding blockForms
-      list-is = number _ is 1 (omega arith)
+      list-is = number (generate list p) is 1 (omega arith)
 
       priority-is : priorityAt tables b ≡ p
       unfolding blockForms priorityAt
       priority-is = number _ is 2 (omega arith)
 
       left-cell : getD (r .tally) (944 + (list - 1)) 0 ≡ length (Moves.timesLeft s list)
-      left-cell = h .stands .tallying .samples .left _ (omega (arith, there, few))
+      left-cell = h .stands .tallying .samples .left (list - 1) (omega (arith, named .0 .0, there, few))
 
       spent : Moves.timesLeft s list ≡ [] → beginBlock tables tapeBytes r b ≡ r
       unfolding beginBlock beginList spentAt
@@ -166,7 +176,9 @@ module _ (m : BlockModel) (tape : List (List ℕ)) (tapeBytes tables lists : Lis
       unfolding spentAt
       unlike time left e = rw list-is (ne-eqb (getD (r .tally) (944 + (list - 1)) 0) 0 (λ q. omega (arith, left-cell, ap length e)))
 
-      unspent : spentAt tables (r .tally) b ≡ false → priorityAt tables b ≡ p → beginBlock tables tapeBytes r b ≡ arrives (r .work) (r .tally) (r .scalars) (nextSample tapeBytes (r .tally) (list - 1)) (list - 1) p (suc b)
+      unspent : spentAt tables (r .tally) b ≡ false → priorityAt tables b ≡ p
+          → beginBlock tables tapeBytes r b ≡ arrives (r .work) (r .tally) (r .scalars) (nextSample tapeBytes (r .tally) (list - 1))
+          (list - 1) p (suc b)
       unfolding beginBlock beginList
       unspent e q = let f : b + 1 ≡ suc b = omega arith in rw (kind-is, e, list-is, q, f)
 
@@ -174,19 +186,34 @@ module _ (m : BlockModel) (tape : List (List ℕ)) (tapeBytes tables lists : Lis
       unfolding Moves.arrival
       made = go _ refl
         where
-          go : (l : List ℕ) → Moves.timesLeft s list ≡ l → Stands tapeBytes (beginBlock tables tapeBytes r b) none (Moves.arrival l list p (suc b) s)
+          go : (l : List ℕ) → Moves.timesLeft s list ≡ l
+              → Stands tapeBytes (beginBlock tables tapeBytes r b) none (Moves.arrival l list p (suc b) s)
           go [] e = rw spent (h .stands)
           go (time ∷ left) e =
-              rw (unspent (unlike time left e) priority-is) (arrives-stands s (h .stands .tallying) list (named .0 .0) there few e (r .scalars) (h .stands .listing) (h .stands .counting)
-              (record { room = omega (arith, h .beginning .made, low); order = omega (arith, h .beginning .ended); serials = omega (arith, h .beginning .serials, low); numbers = omega (arith, h .beginning .made, low) })
+              rw (unspent (unlike time left e) priority-is)
+              (arrives-stands s (h .stands .tallying) list (named .0 .0) there few e (r .scalars) (h .stands .listing)
+              (h .stands .counting)
+              (record {
+                room = omega (arith, h .beginning .made, low);
+                order = omega (arith, h .beginning .ended);
+                serials = omega (arith, h .beginning .serials, low);
+                numbers = omega (arith, h .beginning .made, low);
+              })
               (h .beginning .given) p (suc b) (named .1)
-              (omega (arith, h .beginning .clock, drawn-most tapeBytes (r .tally) (s .samples) (list - 1) (h .stands .tallying .samples) (h .stands .tallying .size) (omega (arith, named .0 .0, there)) few time left e)))
+              (omega (
+                arith,
+                h .beginning .clock,
+                drawn-most tapeBytes (r .tally) (s .samples) (list - 1) (h .stands .tallying .samples)
+                    (h .stands .tallying .size) (omega (arith, named .0 .0, there)) few time left e,
+              )))
 
     -- another kind
-    passed : (x : Block) → blockAt m (suc b) ≡ x → 0 < length (blockNumbers x) → eqb (getD (blockNumbers x) 0 0) 1 ≡ false → beginBlock tables tapeBytes r b ≡ r
+    passed : (x : Block) → blockAt m (suc b) ≡ x → 0 < length (blockNumbers x) → eqb (getD (blockNumbers x) 0 0) 1 ≡ false
+        → beginBlock tables tapeBytes r b ≡ r
     unfolding beginBlock
     passed x is some-number unlike =
-        let e : getD tables (8 * b) 0 ≡ getD (blockNumbers x) 0 0 = ap (λ (n : ℕ). getD tables n 0) (omega arith) ∙ number x is 0 some-number in
+        let e : getD tables (8 * b) 0 ≡ getD (blockNumbers x) 0 0 = ap (λ (n : ℕ). getD tables n 0) (omega arith)
+        ∙ number x is 0 some-number in
         rw (e, unlike)
 
     -- one block more
@@ -195,8 +222,8 @@ module _ (m : BlockModel) (tape : List (List ℕ)) (tapeBytes tables lists : Lis
         record {
           clock = h .beginning .clock;
           ended = h .beginning .ended;
-          made = omega arith;
-          serials = omega arith;
+          made = omega (arith, h .beginning .made);
+          serials = omega (arith, h .beginning .serials);
           samples = h .beginning .samples;
           given = h .beginning .given;
         }
@@ -207,17 +234,26 @@ module _ (m : BlockModel) (tape : List (List ℕ)) (tapeBytes tables lists : Lis
       where
         go : Begins x → Stood (suc b) (beginBlock tables tapeBytes r b) (startOf x (suc b) s)
         go (makes list p e) =
-            rw (e, ne-eqb list 0 (λ z. omega (arith, (subst (ProperBlock m) (is ∙ e) (proper .block (suc b)) .0 .0)))) (record { stands = made list p (is ∙ e); beginning = arrival-beginning _ b list p _ s (h .beginning) _ })
+            let list-named : 1 ≤ list = subst (ProperBlock m) (is ∙ e) (proper .block (suc b)) .0 .0 in
+            rw (e, ne-eqb list 0 (λ z. omega (arith, list-named)))
+            (record {
+              stands = made list p (is ∙ e);
+              beginning = arrival-beginning (m .lists) b list p (suc b) s (h .beginning)
+                  (Moves.timesLeft s list);
+            })
         go (passes some-number unlike same) =
-            rw (same, passed x is some-number unlike) (record { stands = h .stands; beginning = later })
+            rw (same (suc b) s, passed x is some-number unlike) (record { stands = h .stands; beginning = later })
 
   -- ---- All blocks
 
-  blocks-stand : (l : List Block) (b : ℕ) (r : Rows) (s : State) → Stood b r s → b + length l ≡ length (m .blocks) → ((i : ℕ) → i < length l → blockAt m (suc (b + i)) ≡ getD l i (terminate 0)) → Stands tapeBytes (beginBlocks (length l) tables tapeBytes r b) none (startAt (suc b) l s)
+  blocks-stand : (l : List Block) (b : ℕ) (r : Rows) (s : State) → Stood b r s → b + length l ≡ length (m .blocks)
+      → ((i : ℕ) → i < length l → blockAt m (suc (b + i)) ≡ getD l i (terminate 0))
+      → Stands tapeBytes (beginBlocks (length l) tables tapeBytes r b) none (startAt (suc b) l s)
   unfolding beginBlocks startAt
   blocks-stand [] b r s h size at = h .stands
   blocks-stand (x ∷ l) b r s h size at =
-      blocks-stand l (suc b) (beginBlock tables tapeBytes r b) (startOf x (suc b) s) (block-stands b (omega arith) r s h x (ap (λ (n : ℕ). blockAt m (suc n)) (omega arith) ∙ at 0 (omega arith))) (omega arith)
+      let is : blockAt m (suc b) ≡ x = ap (λ (n : ℕ). blockAt m (suc n)) (omega arith) ∙ at 0 (omega arith) in
+      blocks-stand l (suc b) (beginBlock tables tapeBytes r b) (startOf x (suc b) s) (block-stands b (omega arith) r s h x is) (omega arith)
       (λ i hi. ap (λ (n : ℕ). blockAt m (suc n)) (omega arith) ∙ at (suc i) (omega arith))
 
   module _ (w tally : List ℕ) (room : 16384 ≤ length w) (size : length tally ≡ tallySize) (empty : (i : ℕ) → getD tally i 0 ≡ 0) where
@@ -228,15 +264,19 @@ module _ (m : BlockModel) (tape : List (List ℕ)) (tapeBytes tables lists : Lis
     unfolding startScalars idle
     first =
         record {
-          stands = stands-of _ (idle-listing m tape w room) (idle-tallying m tape tapeBytes tables lists tally proper rep size empty) (idle-counting m tape proper);
+          stands =
+              stands-of (startScalars (m .counter)) (idle-listing m tape w room)
+              (idle-tallying m tape tapeBytes tables lists tally proper rep size empty) (idle-counting m tape proper);
           beginning = record { clock = refl; ended = refl; made = omega arith; serials = omega arith; samples = proper .tapes; given = tt };
         }
 
     rows-are : startRows (headerOf m) tables tapeBytes lists w tally ≡ beginBlocks (length (m .blocks)) tables tapeBytes r₀ 0
     unfolding startRows headerOf
-    rows-are = ap (λ (n : ℕ). beginBlocks n tables tapeBytes r₀ 0) (omega arith)
+    rows-are = ap (λ (n : ℕ). beginBlocks n tables tapeBytes r₀ 0) (omega (arith, proper .blocks))
 
+    -- the rows after the start stand for the machine's first state
     pub start-stands : Stands tapeBytes (startRows (headerOf m) tables tapeBytes lists w tally) none (start m tape)
     unfolding start
     start-stands =
-        rw rows-are (blocks-stand (m .blocks) 0 r₀ (idle m tape) first (omega arith) (λ i hi. ap (λ (n : ℕ). getD (m .blocks) n (terminate 0)) (omega arith)))
+        rw rows-are (blocks-stand (m .blocks) 0 r₀ (idle m tape) first (omega arith)
+        (λ i hi. ap (λ (n : ℕ). getD (m .blocks) n (terminate 0)) (omega arith)))

@@ -43,7 +43,8 @@ priorityAt tables b = getD tables (blockWidth * b + 2) 0
 unfoldable pub beginList : (tables tape : List ℕ) → Rows → ℕ → Rows
 beginList tables tape r b =
     cond (spentAt tables (r .tally) b) r
-    (arrives (r .work) (r .tally) (r .scalars) (nextSample tape (r .tally) (getD tables (blockWidth * b + 1) 0)) (getD tables (blockWidth * b + 1) 0) (priorityAt tables b) (b + 1))
+    (arrives (r .work) (r .tally) (r .scalars) (nextSample tape (r .tally) (getD tables (blockWidth * b + 1) 0))
+    (getD tables (blockWidth * b + 1) 0) (priorityAt tables b) (b + 1))
 
 unfoldable pub beginBlock : (tables tape : List ℕ) → Rows → ℕ → Rows
 beginBlock tables tape r b = cond (eqb (getD tables (blockWidth * b) 0) 1) (beginList tables tape r b) r
@@ -55,4 +56,5 @@ beginBlocks (suc n) tables tape r b = beginBlocks n tables tape (beginBlock tabl
 
 unfoldable pub startRows : Model → (tables tape lists : List ℕ) → List ℕ → List ℕ → Rows
 startRows model tables tape lists w tally =
-    beginBlocks (min (model .blocks) maxBlocks) tables tape (rowsOf (startScalars (model .counter)) (initial w) (listsSet maxLists lists tally)) 0
+    beginBlocks (min (model .blocks) maxBlocks) tables tape
+    (rowsOf (startScalars (model .counter)) (initial w) (listsSet maxLists lists tally)) 0

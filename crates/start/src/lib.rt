@@ -85,7 +85,9 @@ fn begin_list(
 ) -> Scalars
     requires { ⌜ Room (now work) ⌝ }
     requires { ⌜ b < maxBlocks ⌝ }
-    ensures { λ r. ⌜ rowsOf r (now (work .exit)) (now (tally .exit)) ≡ beginList (now (tables .entry)) (now (tape .entry)) (rowsOf x (now (work .entry)) (now (tally .entry))) b ⌝ }
+    ensures { λ r. ⌜
+        rowsOf r (now (work .exit)) (now (tally .exit)) ≡ beginList (now (tables .entry)) (now (tape .entry))
+        (rowsOf x (now (work .entry)) (now (tally .entry))) b ⌝ }
 {
     let list = number(tables, BLOCK_WIDTH * b + FIRST);
     if times_left(tally, list) == 0 {
@@ -117,7 +119,9 @@ fn begin_block(
 ) -> Scalars
     requires { ⌜ Room (now work) ⌝ }
     requires { ⌜ b < maxBlocks ⌝ }
-    ensures { λ r. ⌜ rowsOf r (now (work .exit)) (now (tally .exit)) ≡ beginBlock (now (tables .entry)) (now (tape .entry)) (rowsOf x (now (work .entry)) (now (tally .entry))) b ⌝ }
+    ensures { λ r. ⌜
+        rowsOf r (now (work .exit)) (now (tally .exit)) ≡ beginBlock (now (tables .entry)) (now (tape .entry))
+        (rowsOf x (now (work .entry)) (now (tally .entry))) b ⌝ }
 {
     if number(tables, BLOCK_WIDTH * b) != GENERATE {
         return x;
@@ -135,7 +139,9 @@ fn begin_blocks(
 ) -> Scalars
     requires { ⌜ Room (now work) ⌝ }
     requires { ⌜ blocks ≤ maxBlocks ⌝ }
-    ensures { λ r. ⌜ rowsOf r (now (work .exit)) (now (tally .exit)) ≡ beginBlocks blocks (now (tables .entry)) (now (tape .entry)) (rowsOf x (now (work .entry)) (now (tally .entry))) 0 ⌝ }
+    ensures { λ r. ⌜
+        rowsOf r (now (work .exit)) (now (tally .exit)) ≡ beginBlocks blocks (now (tables .entry)) (now (tape .entry))
+        (rowsOf x (now (work .entry)) (now (tally .entry))) 0 ⌝ }
 {
     let mut y = x;
     let mut b: usize = 0;
@@ -166,7 +172,9 @@ pub fn begin(
     tally: &mut [u64],
 ) -> Scalars
     requires { ⌜ Room (now work) ⌝ }
-    ensures { λ r. ⌜ rowsOf r (now (work .exit)) (now (tally .exit)) ≡ startRows model (now (tables .entry)) (now (tape .entry)) (now (lists .entry)) (now (work .entry)) (now (tally .entry)) ⌝ }
+    ensures { λ r. ⌜
+        rowsOf r (now (work .exit)) (now (tally .exit)) ≡ startRows model (now (tables .entry)) (now (tape .entry)) (now (lists .entry))
+        (now (work .entry)) (now (tally .entry)) ⌝ }
 {
     initialise(work);
     set_lists(lists, tally);

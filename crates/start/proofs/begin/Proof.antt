@@ -6,8 +6,17 @@ use Rattle.start.proofs.begin as f
 returns : f.Tie.Need-returns
 unfolding startRows
 returns c =
-    let b = c .before .before .before .before .before .before .before in
-    rw (← b .before .few .ensures, ← b .begin-scalars .ensures, ← b .before .before .before .before .set-lists .ensures, ← b .before .before .before .before .before .before .before .before .initialise .ensures) (c .before .before .before .before .begin-blocks .ensures)
+    let at-begin-blocks : f.Tie.After-begin-blocks = search in
+    let at-begin-scalars : f.Tie.After-begin-scalars = search in
+    let at-few : f.Tie.After-few = search in
+    let at-set-lists : f.Tie.After-set-lists = search in
+    let at-initialise : f.Tie.After-initialise = search in
+    rw (
+      ← at-few .few .ensures,
+      ← at-begin-scalars .begin-scalars .ensures,
+      ← at-set-lists .set-lists .ensures,
+      ← at-initialise .initialise .ensures,
+    ) (at-begin-blocks .begin-blocks .ensures)
 
 pub begin-spec : {M : Type 1} → f.Statement.statement M
 begin-spec =

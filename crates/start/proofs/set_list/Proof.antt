@@ -6,8 +6,11 @@ use Rattle.start.proofs.set_list as f
 returns : f.Tie.Need-returns
 unfolding listSet
 returns c =
-    let b = c .before .before .before .before .before .before .before in
-    rw (c .before .before .set-count2 .ensures, b .set-count .ensures, b .before .count .ensures, c .before .before .before .count2 .ensures)
+    let at-set-count2 : f.Tie.After-set-count2 = search in
+    let at-count2 : f.Tie.After-count2 = search in
+    let at-set-count : f.Tie.After-set-count = search in
+    let at-count : f.Tie.After-count = search in
+    rw (at-set-count2 .set-count2 .ensures, at-set-count .set-count .ensures, at-count .count .ensures, at-count2 .count2 .ensures)
 
 pub set-list-spec : {M : Type 1} → f.Statement.statement M
 set-list-spec =

@@ -9,11 +9,22 @@ Inv-loop lists tally₀ l₀ tally l = (tally ≡ listsSet l lists tally₀) × 
 abbrev μ-loop : f.Tie.MeasureT-loop
 μ-loop lists tally₀ l₀ tally l = 16 - l
 
+loop-holds : f.Tie.Need-loop-holds Inv-loop μ-loop
+unfolding listsSet
+loop-holds c =
+    (refl, (omega arith, refl))
+
 loop-again : f.Tie.Need-loop-again Inv-loop μ-loop
 unfolding listsSet
 loop-again c =
-    let b = c .before .before .before .before .before in
-    (rw add-one (cc (c .before .before .set-list .ensures, b .loop .inv .0)), (omega arith, omega arith))
+    let at-set-list : f.Tie.After-set-list Inv-loop μ-loop = search in
+    let at-loop : f.Tie.At-loop Inv-loop μ-loop = search in
+    (rw add-one (cc (at-set-list .set-list .ensures, at-loop .loop .inv .0)), (omega arith, omega arith))
+
+returns : f.Tie.Need-returns Inv-loop μ-loop
+returns c =
+    let start : f.Tie.Start Inv-loop μ-loop = search in
+    c .before .loop .inv .0 ∙ ap (λ (n : ℕ). listsSet n (start .args .lists .now) (start .args .tally .now)) (omega arith)
 
 pub set-lists-spec : {M : Type 1} → f.Statement.statement M
 set-lists-spec =
@@ -21,10 +32,10 @@ set-lists-spec =
     (f.Tie.spec
     Inv-loop
     μ-loop
-    (λ c. unfold listsSet in (refl, (omega arith, refl)))
+    loop-holds
     (omega arith)
     (omega arith)
     (omega arith)
     loop-again
     (omega arith)
-    (λ c. let b = c .before .before .before .before in c .before .loop .inv .0 ∙ ap (λ (n : ℕ). listsSet n (b .args .lists .now) (b .args .tally .now)) (omega arith)))
+    returns)
