@@ -47,6 +47,7 @@ pub record Sized (s : List ℕ) (count : ℕ) (t : Walk) : Type 0 where
   pub outcomes-is : t .outcomes ≡ length (column (outcomes list))
 
 module _ (s : List ℕ) where
+  -- a trace with a refused record, a falling clock or too many records is not taken
   pub measured-none : totalsOf Refused ≡ totals 0 atStart (wholeFrom maxRecords s (readRecord inForce s 0)) → takenTrace s ≡ none
   unfolding takenTrace totalsOf
   measured-none e = go (wholeFrom maxRecords s (readRecord inForce s 0)) e
@@ -59,6 +60,7 @@ module _ (s : List ℕ) where
       go none f = unfold rising in refl
       go (some l) f = unfold rising totals in (choose l (neverFall 0 (clocks l)) f)
 
+  -- else the walk has the sizes of its four columns
   pub measured-some : (count : ℕ) (t : Walk) → totalsOf (Taken count t) ≡ totals 0 atStart (wholeFrom maxRecords s (readRecord inForce s 0))
       → Sized s count t
   unfolding totalsOf
@@ -137,10 +139,12 @@ module _ (s : List ℕ) (count : ℕ) (t : Walk) (h : Sized s count t) where
           h .outcomes-is,
         )
 
+    -- the columns do not fit the buffer, which stays
     pub to-52 : length out < all → Answers (rejected 52) (toColumns s (length out)) out out
     unfolding toColumns
     to-52 full = answers-52 columnBytes (takenTrace s) out (h .list) (h .taken) all size full
 
+    -- the count, then record by record into the four columns: these are the columns' bytes
     pub to-bytes : all ≤ length out → (p : ℕ) (o1 out′ : List ℕ) → buffer.written p o1 ≡ put count (buffer.written 0 out) →
         out′ ≡ placeAll count s
         (record {
@@ -190,6 +194,7 @@ module _ (s : List ℕ) (r : Survey) (h : Surveyed s r) where
   pub surveyed-none : r ≡ NoColumns → takenColumns s ≡ none
   surveyed-none e = rw e at h
 
+  -- columns that are surveyed hold records, each column begins where the walk says, and the trace has that length
   pub surveyed-taken : {count : ℕ} {t : Walk} {len : ℕ} → r ≡ Surveys count t len → Holds s count t len
   surveyed-taken e = rw e at h
 
@@ -202,6 +207,7 @@ module _ (s : List ℕ) (count : ℕ) (t : Walk) (len : ℕ) (h : Holds s count 
   unfolding fromColumns
   from-52 full = answers-52 traceBytes (takenColumns s) out (foundAll count s t) (h .records) len (h .size) full
 
+  -- record by record out of the four columns: these are the trace's bytes
   pub from-bytes : len ≤ length out → (out′ : List ℕ) → out′ ≡ restoreAll count s t out
       → Answers (written (take len out′)) (fromColumns s (length out)) out out′
   unfolding fromColumns

@@ -100,6 +100,7 @@ module _ (l : List Record) (few : length l ≤ maxRecords) (good : AllInRanges l
 -- ---- "Column bytes are taken exactly if some such trace produces them."
 
 module _ (columns : List ℕ) (l : List Record) where
+  -- columns that are taken are those of a trace
   pub taken-produced : Bytes columns → takenColumns columns ≡ some l → Produces columns l
   taken-produced bytes e =
       let x = columns-parse columns bytes l e in
@@ -155,6 +156,7 @@ trace-51 s room h = go (takenTrace s) refl
     go none e = answer-refused columnBytes room (takenTrace s) e
     go (some l) e = absurd (h l (taken-such s l e))
 
+-- a trace that is taken, and too little room for its columns
 pub trace-52 : (s : List ℕ) (l : List Record) (room : ℕ) → Such s l → room < length (columnBytes l) → toColumns s room ≡ rejected 52
 unfolding toColumns
 trace-52 s l room h full = answer-full columnBytes room (takenTrace s) l (such-taken s l h) full
@@ -173,6 +175,7 @@ columns-52 s l room h full = answer-full traceBytes room (takenColumns s) l (pro
 
 -- ---- "An inverse gives back the trace."
 
+-- there and back: the trace's own bytes
 pub inverse : (trace columns : List ℕ) (room back : ℕ) → Bytes trace → toColumns trace room ≡ written columns → length trace ≤ back →
     fromColumns columns back ≡ written trace
 unfolding toColumns fromColumns

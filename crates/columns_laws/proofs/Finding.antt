@@ -97,6 +97,7 @@ module _ (s : List ℕ) where
           os-stand = stands-rest s (t .outcomes) o os (h .e3) (h .os-stand);
         }
 
+  -- records found by walking four columns at once are the columns' rows
   pub found-rows : (n : ℕ) (cs ts bs os : List ℕ) → length cs ≡ n → length ts ≡ n → length bs ≡ n → length os ≡ n → (t : Walk)
       → Ahead t cs ts bs os →
       foundAll n s t ≡ rows cs ts bs os

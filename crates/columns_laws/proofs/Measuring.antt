@@ -26,10 +26,12 @@ module _ (count : ℕ) (t : Walk) (x : Reading) {y : machine.Reading} (e : readi
     unfolding measuring
     measured-fallen low = rw (← e, h, lt-ltb _ _ low)
 
+    -- one record more than the limit
     pub measured-many : t .clock ≤ r .clock → count ≡ maxRecords → Refused ≡ measuring count t y
     unfolding measuring
     measured-many high full = rw (← e, h, le-ltb _ _ high, eq-eqb _ _ full)
 
+    -- a record lengthens each column by its own number
     pub measured-taken : t .clock ≤ r .clock → (count ≡ maxRecords → ⊥) → {w : Walk} →
         w ≡ longer t (entry (r .clock) (r .transaction) (r .block) (r .outcome)) next → Taken (count + 1) w ≡ measuring count t y
     unfolding measuring
@@ -75,6 +77,7 @@ pub record Stepped (s : List ℕ) (count : ℕ) (t : Walk) (n : ℕ) (t′ : Wal
   pub same : Rest s n t′ ≡ Rest s count t
 
 module _ (s : List ℕ) (count : ℕ) (t : Walk) (short : Short count t) where
+  -- a step that refuses refuses the trace
   pub step-refused : t .at < length s → Refused ≡ measuring count t (readRecord inForce s (t .at)) → totalsOf Refused ≡ Rest s count t
   unfolding measuring totalsOf
   step-refused inside e = go (readRecord inForce s (t .at)) refl e
@@ -98,6 +101,7 @@ module _ (s : List ℕ) (count : ℕ) (t : Walk) (short : Short count t) where
       go (refusal n) f h = rw (whole-refusal s (maxRecords - count) n) (unfold totals in refl)
       go noMore f h = absurd (omega (arith, no-more-end s (t .at) f))
 
+  -- a step that takes one leaves the rest of the trace to be measured
   pub step-taken : (n : ℕ) (t′ : Walk) → Taken n t′ ≡ measuring count t (readRecord inForce s (t .at)) → Stepped s count t n t′
   unfolding measuring
   step-taken n t′ e = go (readRecord inForce s (t .at)) refl e

@@ -16,6 +16,7 @@ unfolding column
 stands-none s at = record { bytes = refl; place = sym (add-zero at) }
 
 module _ (s : List ℕ) (at v : ℕ) (l : List ℕ) (end : ℕ) where
+  -- numbers that stand one after the other: one in front of others,
   pub stands-cons : drop at s ≡ numberBytes v ++ drop (at + length (numberBytes v)) s → Stands s (at + length (numberBytes v)) l end
       → Stands s at (v ∷ l) end
   unfolding column
@@ -25,10 +26,12 @@ module _ (s : List ℕ) (at v : ℕ) (l : List ℕ) (end : ℕ) where
         place = h .place ∙ rw length-append (omega arith);
       }
 
+  -- the first of them,
   pub stands-first : Stands s at (v ∷ l) end → drop at s ≡ numberBytes v ++ (column l ++ drop end s)
   unfolding column
   stands-first h = h .bytes ∙ append-assoc (numberBytes v) (column l) (drop end s)
 
+  -- and the others
   pub stands-rest : Stands s at (v ∷ l) end → Stands s (at + length (numberBytes v)) l end
   unfolding column
   stands-rest h =
@@ -39,6 +42,7 @@ module _ (s : List ℕ) (at v : ℕ) (l : List ℕ) (end : ℕ) where
 
 -- ---- What was parsed before the rest of a parser answered
 
+-- what two parsers read one after the other, the first read a part of
 pub continued : {A B : Type 0} (p : Parsed A) (f : A → Parser B) (b : B) (c : Cursor) → continue p f ≡ parsed b c →
     (a : A) × (d : Cursor) × (p ≡ parsed a d) × (f a d ≡ parsed b c)
 unfolding continue
@@ -63,6 +67,7 @@ pub record ColumnTaken (s : List ℕ) (lo hi n at : ℕ) (l : List ℕ) (c : Cur
   pub between : Between lo hi l
 
 module _ (s : List ℕ) (bytes : Bytes s) (lo hi : ℕ) where
+  -- a column that is read stood there, in its range
   pub column-taken : (n at : ℕ) (l : List ℕ) (c : Cursor) → times n (traceField inForce s lo hi) (cursorAt at 0 0) ≡ parsed l c
       → ColumnTaken s lo hi n at l c
   unfolding times
@@ -85,6 +90,7 @@ module _ (s : List ℕ) (bytes : Bytes s) (lo hi : ℕ) where
       })
 
 module _ (s : List ℕ) (lo hi : ℕ) (size : hi ≤ fiveGroups) where
+  -- and one that stands there is read
   pub column-reads : (l : List ℕ) (at end : ℕ) → Stands s at l end → Between lo hi l →
       times (length l) (traceField inForce s lo hi) (cursorAt at 0 0) ≡ parsed l (cursorAt end 0 0)
   unfolding times column continue
@@ -122,6 +128,7 @@ one-clock s n before d at l c small e rest =
     }
 
 module _ (s : List ℕ) (bytes : Bytes s) where
+  -- the same of the clocks, which are read as differences and stay at most the limit
   pub clocks-taken : (n before at : ℕ) (l : List ℕ) (c : Cursor) → before ≤ maxClock
       → clocksFrom s n before (cursorAt at 0 0) ≡ parsed l c →
       ClocksTaken s n before at l c

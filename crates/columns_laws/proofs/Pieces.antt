@@ -9,6 +9,7 @@ use Rattle.columns_laws.proofs.Parsing.{continued, Between, ColumnTaken
 
 -- ---- Rows and columns
 
+-- records split into columns and joined again
 pub rows-of : (l : List Record) → rows (clocks l) (transactions l) (blocks l) (outcomes l) ≡ l
 unfolding rows
 rows-of [] = refl
@@ -20,6 +21,7 @@ pub record Split (cs ts bs os : List ℕ) : Type 0 where
   pub transactions-of : transactions (rows cs ts bs os) ≡ ts
   pub blocks-of : blocks (rows cs ts bs os) ≡ bs
   pub outcomes-of : outcomes (rows cs ts bs os) ≡ os
+  -- a trace is as long as its four columns of plain numbers
   pub bytes-of : length (traceBytes (rows cs ts bs os)) ≡ length (column cs) + length (column ts) + length (column bs) + length (column os)
   pub ranges-of : Below cs → Between 1 maxTransaction ts → Between 1 maxBlocks bs → Between 0 1 os → AllInRanges (rows cs ts bs os)
 
@@ -50,6 +52,7 @@ split-cons c t b o cs ts bs os h =
       );
     }
 
+-- and columns of equal length joined and split again
 pub split : (n : ℕ) (cs ts bs os : List ℕ) → length cs ≡ n → length ts ≡ n → length bs ≡ n → length os ≡ n → Split cs ts bs os
 split zero [] [] [] [] e f g h = unfold rows traceBytes column in record {
   clocks-of = refl;
@@ -157,6 +160,7 @@ at-end s l m c d e = go (eqb (c .position) (length s)) refl e
     go true f g = unfold continue ask in (eqb-true _ _ f, (cc))
     go false f g = unfold continue ask in (clash (cc))
 
+-- what is taken as columns are count, clocks, transactions, blocks and outcomes, and nothing behind
 pub columns-parse : (s : List ℕ) → Bytes s → (l : List Record) → takenColumns s ≡ some l → Parses s l
 unfolding takenColumns columnFields
 columns-parse s bytes l e =

@@ -17,6 +17,7 @@ module _ (at : ℕ) (x : Reading) {y : machine.Reading} (e : readingOf x ≡ y) 
   unfolding entryOf
   entry-taken h = rw (← e, h)
 
+  -- a record that is not read counts as zeros, at the same place
   pub entry-refused : {n : ℕ} → x ≡ Unread n → record { clock = 0; transaction = 0; block = 0; outcome = 0; next = at } ≡ entryOf at y
   unfolding entryOf
   entry-refused h = rw (← e, h)
@@ -99,7 +100,9 @@ module _ (a b c d a′ b′ c′ d′ l : List ℕ) (i j k m : ℕ) (ij : i + le
 
 -- each column has room up to the next
 pub record Room (t : Walk) (l : List Record) (n : ℕ) : Type 0 where
+  -- each column ends before the next begins: differences,
   pub differences : t .differences + length (column (differences (t .clock) (clocks l))) ≤ t .transactions
+  -- transactions
   pub transactions : t .transactions + length (column (transactions l)) ≤ t .blocks
   pub blocks : t .blocks + length (column (blocks l)) ≤ t .outcomes
   pub outcomes : t .outcomes + length (column (outcomes l)) ≤ n
@@ -190,6 +193,7 @@ module _ (t : Walk) (r : Record) (l : List Record) (next : ℕ) (out : List ℕ)
       (omega (arith, column-cons (r .transaction) (transactions l), room))
       (omega (arith, column-cons (r .block) (blocks l), room))
 
+-- all records placed: each column's bytes stand from its place on
 pub placed-all : {s : List ℕ} {at : ℕ} {l : List Record} → Reads s at l → (t : Walk) → t .at ≡ at → (out : List ℕ) → Room t l (length out) →
     placeAll (length l) s t out ≡ laid t l out
 placed-all (ends e) t h out room = unfold placeAll column differences in refl

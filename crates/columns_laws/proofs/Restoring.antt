@@ -14,6 +14,7 @@ module _ (at : ℕ) (x : Read) {o : Option bytes.Number} (e : numberOf at x ≡ 
   unfolding numberOr numberOf
   number-unread h = rw (← e, h)
 
+  -- a number that is read, and the place behind it
   pub number-read : {v next : ℕ} → x ≡ Whole v next → at ≤ next → record { value = v; next = next } ≡ numberOr at o
   unfolding numberOr numberOf
   number-read {v} {next} h after =
@@ -22,6 +23,7 @@ module _ (at : ℕ) (x : Read) {o : Option bytes.Number} (e : numberOf at x ≡ 
 
 -- ---- One step of the code
 
+-- one number of each column is one record of the trace
 pub restored : (s : List ℕ) (t : Walk) (d n b o : Number) (clock p1 p2 p3 p4 : ℕ) (out o1 o2 o3 o4 : List ℕ) →
     d ≡ numberAt s (t .differences) → n ≡ numberAt s (t .transactions) → b ≡ numberAt s (t .blocks) → o ≡ numberAt s (t .outcomes) →
     clock ≡ later (t .clock) (d .value) →
@@ -54,6 +56,7 @@ restore-none left s t out h = let e : left ≡ 0 = omega arith in rw e
 -- ---- One record
 
 module _ (r : Record) (at : ℕ) (out : List ℕ) (room : at + length (recordBytes r) ≤ length out) where
+  -- its four numbers are its bytes
   pub record-put : put (r .outcome) (put (r .block) (put (r .transaction) (put (r .clock) (written at out))))
       ≡ written (at + length (recordBytes r)) (sets out at (recordBytes r))
   record-put =
@@ -93,6 +96,7 @@ unfolding foundAll found passed
 found-at zero s t a b = refl
 found-at (suc n) s t a b = ap (λ (l : List Record). found s (passed s t a) ∷ l) (found-at n s (passed s t a) a b)
 
+-- all records restored are the trace
 pub restored-all : (n : ℕ) (s : List ℕ) (t : Walk) (out : List ℕ) → t .at + length (traceBytes (foundAll n s t)) ≤ length out →
     restoreAll n s t out ≡ sets out (t .at) (traceBytes (foundAll n s t))
 restored-all zero s t out room = unfold restoreAll foundAll traceBytes in refl

@@ -136,6 +136,7 @@ module _ {m : BlockModel} {tape : List (List ℕ)} (proper : Proper m tape) (rul
       last-state m budget room Both both-turn (λ s e c h. (kept-end proper rules room budget s e (λ z. rw z at (c .stated)) (h .0), h .1))
       tape both-start
 
+  -- every trace of a run is taken: its records lie in their ranges, its clock never falls
   pub run-taken : Such (traceBytes (recordsOf (run m tape budget room))) (recordsOf (run m tape budget room))
   run-taken =
       let s = run m tape budget room in

@@ -52,6 +52,7 @@ module _ (s : List ℕ) where
     unfolding clocksFrom parsedOf continue sized
     clocks-stop told = let more : left ≡ suc (left - 1) = omega arith in rw (more, ← e 0 0, told)
 
+    -- a difference is stored, the clock's own length is what the trace will have
     pub clocks-step : {d after len : ℕ} → f ≡ Value d after → len ≡ length (numberBytes (clock + d)) →
         sized (size + len) (clocksFrom s (left - 1) (clock + d) (cursorAt after 0 0))
         ≡ sized size (clocksFrom s left clock (cursorAt next 0 0))
@@ -136,11 +137,13 @@ column-longest (v ∷ l) = rw length-append (omega (arith, numberBytes-longest v
 -- ---- The survey
 
 module _ (s : List ℕ) (bytes : Bytes s) where
+  -- the questions in their order: count,
   pub survey-count : (k : ℕ) → traceField inForce s 0 maxRecords (cursorAt 0 0 0) ≡ refused k → takenColumns s ≡ none
   unfolding takenColumns columnFields continue recordsOf
   survey-count k f = rw f
 
   module _ (n p0 : ℕ) (few : n ≤ maxRecords) (f0 : traceField inForce s 0 maxRecords (cursorAt 0 0 0) ≡ parsed n (cursorAt p0 0 0)) where
+    -- clocks,
     pub survey-clocks : NoClocks ≡ sized 0 (clocksFrom s n 0 (cursorAt p0 0 0)) → takenColumns s ≡ none
     unfolding takenColumns columnFields continue recordsOf
     survey-clocks e = rw (f0, sized-none (clocksFrom s n 0 (cursorAt p0 0 0)) e .1)
@@ -149,6 +152,7 @@ module _ (s : List ℕ) (bytes : Bytes s) where
       abbrev k1 : KnownClocks s n p0 p1 size
       k1 = known-clocks s bytes n p0 p1 size c1
 
+      -- transactions,
       pub survey-transactions : NoColumn ≡ ends (times n (traceField inForce s 1 maxTransaction) (cursorAt p1 0 0)) → takenColumns s ≡ none
       unfolding takenColumns columnFields continue recordsOf
       survey-transactions e = rw (f0, k1 .parsed-is, ends-none (times n (traceField inForce s 1 maxTransaction) (cursorAt p1 0 0)) e .1)
@@ -157,6 +161,7 @@ module _ (s : List ℕ) (bytes : Bytes s) where
         abbrev k2 : Known s 1 maxTransaction n p1 p2
         k2 = known s bytes 1 maxTransaction n p1 p2 c2
 
+        -- blocks,
         pub survey-blocks : NoColumn ≡ ends (times n (traceField inForce s 1 maxBlocks) (cursorAt p2 0 0)) → takenColumns s ≡ none
         unfolding takenColumns columnFields continue recordsOf
         survey-blocks e =
@@ -166,6 +171,7 @@ module _ (s : List ℕ) (bytes : Bytes s) where
           abbrev k3 : Known s 1 maxBlocks n p2 p3
           k3 = known s bytes 1 maxBlocks n p2 p3 c3
 
+          -- outcomes
           pub survey-outcomes : NoColumn ≡ ends (times n (traceField inForce s 0 1) (cursorAt p3 0 0)) → takenColumns s ≡ none
           unfolding takenColumns columnFields continue recordsOf
           survey-outcomes e =

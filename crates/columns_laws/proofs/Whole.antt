@@ -41,6 +41,7 @@ first r none l e = clash (cc)
 first r (some m) l e = record { tail = m; found = refl; all = sym (some-list e) }
 
 module _ (s : List ℕ) where
+  -- a trace read whole is read record by record, and has at most so many
   pub whole-reads : (k at : ℕ) (l : List Record) → wholeFrom k s (readRecord inForce s at) ≡ some l → Reads s at l × (length l ≤ k)
   whole-reads zero at l e = go (readRecord inForce s at) refl e
     where

@@ -20,6 +20,7 @@ module _ (tables tally : List ℕ) (block : ℕ) where
   unfolding serverAt
   low = mod-lt (getD tables (placeIn block + 1) 0) (omega arith)
 
+  -- statistics are up to date, and fewer units are free than the ENTER takes
   pub crowded-is : crowded tables tally block ≡ true → (behind tally v ≡ false) × (short tables tally block ≡ true)
   unfolding crowded
   crowded-is h = asked-false (behind tally v) _ h
@@ -61,11 +62,13 @@ module _ (tables tally : List ℕ) (block : ℕ) where
     longer-next =
         cases (ltb cell (length tally)) (λ e. within (ltb-true cell _ e)) (λ e. past (ltb-false cell _ e))
 
+    -- one more that goes back makes the QL n + 1 longer, since no ticks are left to sum
     pub lengthened-next : behind tally v ≡ false → (clock : ℕ)
         → lengthened tables tally₁ clock block ≡ lengthenedBy tables tally block (n + 1)
     unfolding lengthened updateServer longer
     lengthened-next now clock = rw (behind-kept, now) longer-next
 
+  -- and the first makes it 1 longer
   pub lengthened-first : behind tally v ≡ false → (clock : ℕ) → lengthened tables tally clock block ≡ lengthenedBy tables tally block 1
   unfolding lengthened updateServer longer lengthenedBy
   lengthened-first now clock = rw now

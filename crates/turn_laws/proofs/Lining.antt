@@ -122,6 +122,7 @@ module _ (w : List ℕ) (v k c m : ℕ) (hv : v < 64) (hk : k < 1024) (is : firs
       (store-swap w₁ (link k) m (place k) v (λ q. omega arith)
       ∙ ap (λ z. store z (link k) m) (store-again cut (place k) nowhere v)))
 
+  -- who comes back first, to the end of its QL, is taken off REL and appended there
   pub lined-is : (tables : List ℕ) (block : ℕ) → serverOf tables block ≡ v → getD tables Layout.edition 0 ≡ 1
       → lined tables w block ≡ appended w v k c m
   unfolding lined lineUp
@@ -267,6 +268,7 @@ module _ (w : List ℕ) (v l m : ℕ) (room : 16384 ≤ length w) (hv : v < 64) 
       ∙ ap to c
       ∙ ap (λ z. to (store (store z (link k) m) (tail v) (link k))) d)
 
+  -- the next of the chain, appended behind the last, leaves the chain one longer
   pub tied-next : (tables : List ℕ) → serverOf tables block ≡ v → getD tables Layout.edition 0 ≡ 1
       → lined tables (tied w v l m) block ≡ tied (store w (place k) v) v k m
   tied-next tables server edition =
@@ -285,6 +287,7 @@ times-shift tables block (suc n) w = ap (λ z. lined tables z block) (times-shif
 
 -- rows w and their last l, where i of them have come since rows w₀ and row l₀, all of one standing
 pub record Lining (block v m : ℕ) (w₀ : List ℕ) (l₀ standing most : ℕ) (w : List ℕ) (l serial i : ℕ) : Type 0 where
+  -- the rows with the chain so far are those after so many who line up one by one
   pub same : 1024 ≤ m → standing % 2 ≡ 1 → WhereLine block v (λ tables. Lines tables block (tied w₀ v l₀ m) (i - 1) (tied w v l m))
   pub room : 16384 ≤ length w₀
   pub low : v < 64
@@ -295,6 +298,7 @@ pub record Lining (block v m : ℕ) (w₀ : List ℕ) (l₀ standing most : ℕ)
   pub few : i ≤ most
   pub kept : length w ≡ length w₀
 
+-- the walk begins with the first alone
 pub lining-none : {block v m : ℕ} {w : List ℕ} {l most : ℕ} → 16384 ≤ length w → v < 64 → l < 1024 → 1 ≤ most
     → Lining block v m w l (read w 1 l) most w l (read w 7 l) 1
 unfolding linedTimes
@@ -311,6 +315,7 @@ lining-none room low hl some =
       kept = refl;
     }
 
+-- who comes with the first: a row, before the same block, of the same standing, with a later serial
 pub comes-is : (w : List ℕ) (n block standing serial : ℕ) → comesWith w n block standing serial ≡ true
     → (n < 1024) × (read w 6 n ≡ block) × (read w 1 n ≡ standing) × (serial < read w 7 n)
 unfolding comesWith
@@ -320,6 +325,7 @@ comes-is w n block standing serial h =
     let c = asked-true (eqb (read w 1 n) standing) _ (b .1) in
     (ltb-true n 1024 (a .0), eqb-true _ block (b .0), eqb-true _ standing (c .0), ltb-true serial _ (c .1))
 
+-- one step of the walk
 pub lining-next : {block v m : ℕ} {w₀ : List ℕ} {l₀ standing most : ℕ} {w : List ℕ} {l serial i : ℕ}
     → Lining block v m w₀ l₀ standing most w l serial i
     → (k : ℕ) → k ≡ load w (link l) → comesWith w k block standing serial ≡ true → i < most → (w′ : List ℕ) → w′ ≡ store w (place k) v
@@ -390,10 +396,12 @@ back-odd w block h some =
     (λ b. absurd (some (sym (rw (a, b) at h)))))
     (λ a. absurd (some (sym (rw a at h))))
 
+-- nobody lines up
 pub lines-none : {tables : List ℕ} {block : ℕ} {w : List ℕ} → Lines tables block w 0 w
 unfolding linedTimes
 lines-none = record { rows = refl; back = λ i h. absurd (omega arith) }
 
+-- the walk whole: cut off REL, the chain stands behind its QL, as if each had come alone
 pub lines-all : {tables : List ℕ} {block v : ℕ} {w : List ℕ} {k c m r : ℕ} {w₁ w′ : List ℕ} → 16384 ≤ length w → serverOf tables block ≡ v
     → v < 64 → getD tables Layout.edition 0 ≡ 1
     → backTo w ≡ block → first w rel ≡ k → load w (tail v) ≡ c → endsAt w v c k ≡ true → load w c ≡ m → 1024 ≤ m

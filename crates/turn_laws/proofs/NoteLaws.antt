@@ -70,6 +70,7 @@ at-block-few o b (x ∷ l) =
 
 -- scalars, tally and trace buffer beside a work buffer stand for a state and its records
 pub record Follows (tapeBytes before work : List ℕ) (n : Noted) (s : State) : Type 0 where
+  -- the rows with the note taken stand for the state as before
   pub stands : Stands tapeBytes (rowsOf (n .scalars) work (n .tally)) (s .moving) s
   pub writes : Writes before (n .trace) s
 

@@ -35,6 +35,7 @@ module _ (trace last : List ℕ) (used clock number block outcome : ℕ) (le : u
   unfolding appendRecord
   answered w e = rw (le-leb used (length trace) le, e)
 
+  -- a record that is taken stands behind those before it, in a part of the trace that was lent
   pub appends : (rest b : List ℕ) (n : ℕ) → rest ≡ drop used trace → written b ≡ writeRecord inForce (length rest) r
       → last ≡ after (writeRecord inForce (length rest) r) rest → n ≡ length (recordBytes r)
       → bytes (used + n) (putMid used (length trace - used) trace last) ≡ appendRecord trace used clock number block outcome
@@ -51,6 +52,7 @@ module _ (trace last : List ℕ) (used clock number block outcome : ℕ) (le : u
       ∙ ap (λ (k : ℕ). bytes (used + k) (take used trace ++ (recordBytes r ++ drop (length (recordBytes r)) (drop used trace)))) size
       ∙ sym (answered (written (recordBytes r)) w′)
 
+  -- one that is refused leaves the trace and its length
   pub refuses : (rest : List ℕ) (n : ℕ) → rest ≡ drop used trace → rejected n ≡ writeRecord inForce (length rest) r
       → last ≡ after (writeRecord inForce (length rest) r) rest
       → bytes used (putMid used (length trace - used) trace last) ≡ appendRecord trace used clock number block outcome
@@ -62,6 +64,7 @@ module _ (trace last : List ℕ) (used clock number block outcome : ℕ) (le : u
       ap (bytes used) (put-rest trace last used le ∙ ap (λ (x : List ℕ). take used trace ++ x) l ∙ take-append-drop used trace)
       ∙ sym (answered (rejected n) w′)
 
+-- counted and appended: both parts of a note
 pub notes : (tally tally′ trace trace′ : List ℕ) (x : Scalars) (n number block : ℕ) → x .note < 2
     → tally′ ≡ countRecord tally block (x .note)
     → bytes n trace′ ≡ appendRecord trace (x .used) (x .clock) number block (x .note)

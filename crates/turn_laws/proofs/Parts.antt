@@ -8,6 +8,7 @@ use Rattle.clock.specs.Taking.{take}
 use Rattle.values_queues_laws.specs.Scheme.{leaves, wsScheme}
 use Rattle.turn_laws.specs.{Noted, noted, noteRecord, Traced, traced, withNote, actMoving, nextOf, asks, schemeIf, withScheme, afterTaking, turn}
 
+-- the block's rows and the note of its record
 pub note-joined : (y : Scalars) (w tally : List ℕ) (r : Rows) (z : Scalars) (tally′ trace trace′ : List ℕ) (number block : ℕ)
     → rowsOf y w tally ≡ r → noted z tally′ trace′ ≡ noteRecord tally trace y number block
     → traced (rowsOf z w tally′) trace′ ≡ withNote r trace number block
@@ -21,6 +22,7 @@ pub scheme-not : (b : Bool) (tables : List ℕ) (blocks values : ℕ) (tally : L
 unfolding schemeIf
 scheme-not b tables blocks values tally x w e = ap (λ (c : Bool). cond c (wsScheme tables blocks values tally x w) w) (sym e)
 
+-- the WS scheme where it is asked for
 pub scheme-so : (b : Bool) (tables : List ℕ) (blocks values : ℕ) (tally : List ℕ) (x : Scalars) (w w′ : List ℕ) → b ≡ true
     → w′ ≡ wsScheme tables blocks values tally x w → w′ ≡ schemeIf b tables blocks values tally x w
 unfolding schemeIf
@@ -37,6 +39,7 @@ scheme-none b tables blocks values tally x w h = go b (eqb (x .end) 0)
     go true false = refl
     go false e = refl
 
+-- behind the taking: the block, then the WS scheme if the block or the clock asks for it
 pub after-turned : (tables : List ℕ) (blocks values facilities : ℕ) (tape trace : List ℕ) (before block : ℕ) (y : Scalars)
     (w₁ tally₁ : List ℕ) (z : Scalars) (w₂ tally₂ trace₂ w₃ : List ℕ)
     → block ≡ nextOf w₁ (y .moving) → traced (rowsOf z w₂ tally₂) trace₂ ≡ actMoving tables values facilities tape w₁ tally₁ trace y
@@ -48,6 +51,7 @@ after-turned tables blocks values facilities tape trace before block y w₁ tall
     ≡ withScheme (asks tables before (a .rows .scalars .clock) (nextOf w₁ (y .moving))) tables blocks values a) acted
     (rw next at (ap (λ (v : List ℕ). traced (rowsOf z v tally₂) trace₂) schemed))
 
+-- taking, and what comes behind it, are the turn
 pub turned : (model : Model) (tables tape w tally trace : List ℕ) (x y : Scalars) (w₁ tally₁ : List ℕ) (a : Traced)
     → rowsOf y w₁ tally₁ ≡ take w tally x
     → a ≡ afterTaking tables (model .blocks) (model .values) (model .facilities) tape trace (x .clock) (rowsOf y w₁ tally₁)

@@ -44,10 +44,12 @@ pub asked-true : (a b : Bool) → cond a b false ≡ true → (a ≡ true) × (b
 asked-true true b e = (refl, e)
 asked-true false b e = absurd (true≢false (sym e))
 
+-- a test that must not hold, and one that must
 pub asked-false : (a b : Bool) → cond a false b ≡ true → (a ≡ false) × (b ≡ true)
 asked-false true b e = absurd (true≢false (sym e))
 asked-false false b e = (refl, e)
 
+-- what `quiet` says of a block: it is of this kind, and no WAITIF reads what waiting there changes
 pub quiet-is : (tables : List ℕ) (kind block : ℕ) → quiet tables kind block ≡ true → Quiet tables kind block
 unfolding quiet
 quiet-is tables kind block h =
@@ -137,6 +139,7 @@ module _ (model : Model) (tables tape w tally trace : List ℕ) (x : Scalars) (n
     unfolding execute byKind later waitTermsRows waitOn putBack lineUp moved counted
     waits = rw (there₉ .is, held-for tables (model .values) tally (x .clock) (placeIn block) w₁ k (holding .1), returning₁ 9 there₉)
 
+    -- the turn of one who comes back to a WAITIF at which all wait: from REL to the WSL, and nothing else
     pub stays : turn model tables tape w tally trace x ≡ traced (rowsOf (counted x) (stayed w) tally) trace
     unfolding stayed
     stays = rw (comes 9 there₉ .row) (again 9 there₉ (put w₁ wsl k) tally waits)
@@ -161,6 +164,7 @@ module _ (model : Model) (tables tape w tally trace : List ℕ) (x : Scalars) (n
     unfolding execute byKind enterRows takeUnits queueUp waitOn putBack moved counted lengthened
     lines = rw (there₆ .is, lacking, returning₁ 6 there₆)
 
+    -- the turn of one who comes back to an ENTER with too few free units: from REL to its QL, whose length is counted
     pub queues : turn model tables tape w tally trace x
         ≡ traced (rowsOf (counted x) (lined tables w block) (lengthened tables tally (x .clock) block)) trace
     unfolding lined

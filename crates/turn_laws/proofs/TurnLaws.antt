@@ -121,6 +121,7 @@ module _ {m : BlockModel} {tape : List (List ℕ)} {tapeBytes tables lists befor
             writes = writes;
           }
 
+  -- the block of the moving transaction, with its record, over rows and over the machine
   pub act-runs : (o : Option Transaction) → s .moving ≡ o → Stands tapeBytes r o s
       → Runs tapeBytes before (actMoving tables values (m .facilities) tapeBytes w tally trace x) (Machine.execute o m s)
   act-runs none e stands = unfold Machine.execute in nobody e stands
@@ -268,6 +269,7 @@ module _ {m : BlockModel} {tape : List (List ℕ)} {tapeBytes tables lists befor
   either true e = schemed
   either false e = unasked e
 
+  -- one whole turn: taking or clock move, block, record, WS scheme
   pub turn-runs : Runs tapeBytes before (turn (headerOf m) tables tapeBytes (r .work) (r .tally) (a .trace) (r .scalars)) (Machine.turn m s)
   unfolding turn afterTaking headerOf Machine.turn
   turn-runs = either asking refl

@@ -10,6 +10,7 @@ pub record Unwritten (s x : State) : Type 0 where
   pub clock : x .view .clock ≡ s .view .clock
   pub entries : x .view .entries ≡ s .view .entries
 
+-- a block by itself writes no record: `log` does
 pub unwritten : (m : BlockModel) (b : Block) (t : Transaction) (s : State) → ProperBlock m b
     → Unwritten s (bareAnswer (question m b t s) m b t s .state)
 unwritten m b t s proper = go (question m b t s) refl
