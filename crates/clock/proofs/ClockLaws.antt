@@ -1,5 +1,5 @@
 -- A clock move follows the machine: it is counted, and all of the first time come from the FEL to REL.
-use Rattle.machine.specs.All.{ℕ, suc, _+_, _≤_, _<_, _≡_, refl, sym, _∙_, subst, Bool, false, List, [], _∷_, none, arith, lt-ltb, le-ltb, length, getD, maxClock, Transaction, Event, precedes, insert, those, others, BlockModel, State, setRel, setSerial, withSerial, withReturning}
+use Rattle.machine.specs.All.{ℕ, suc, _+_, _≤_, _<_, _≡_, refl, sym, _∙_, subst, Bool, false, List, [], _∷_, none, arith, lt-ltb, le-ltb, length, getD, maxClock, Transaction, Event, precedes, insert, those, others, BlockModel, State, setRel, setSerial, withSerial, withReturning, ap, Each}
 use Rattle.machine.specs.Turn as Machine
 use Rattle.machine.proofs.{decoding.Proper.Proper, lists.Sums.sum-length, lists.Sums.sum-insert, lists.Sums.sum-those}
 use Rattle.layout.specs.All.{clockMoves}
@@ -17,6 +17,7 @@ arrivals-length : (l : List Event) (n : ℕ) (r : List Transaction) → length (
 unfolding arrivals
 arrivals-length [] n r = omega arith
 arrivals-length (e ∷ l) n r =
+    let t : Transaction = withSerial (suc n) (withReturning false (e .who)) in
     omega (
       arith,
       arrivals-length l (suc n) (insert precedes (withSerial (suc n) (withReturning false (e .who))) r),
@@ -53,25 +54,27 @@ module _ {m : BlockModel} {tape : List (List ℕ)} (proper : Proper m tape) (tap
 
     -- the machine's state after the move
     abbrev s′ : State
-    s′ = setRel (arrivals (those (Machine.due (e .time)) (s .fel)) (s .serial) (s .rel)) (setSerial (s .serial + length (those (Machine.due (e .time)) (s .fel))) (clocked (e .time) s))
+    s′ =
+        setRel (arrivals (those (Machine.due (e .time)) (s .fel)) (s .serial) (s .rel))
+        (setSerial (s .serial + length (those (Machine.due (e .time)) (s .fel))) (clocked (e .time) s))
 
     abbrev a : Arrived
     a = arrive 1024 (e .time) w (s .serial)
 
     arrives : Arrives w a (update rel ready (listsOf s)) later (s .serial + length due)
     unfolding listsIn
-    arrives = arrive-shows w _ _ (h .listing .shows) e l future _
+    arrives = arrive-shows w (listsOf s) (s .fel) (h .listing .shows) e l future (s .serial)
 
     in-time : e .time ≤ maxClock
-    in-time = rw future at (sane .timely .times) .0
+    in-time = subst (Each (λ (y : Event). y .time ≤ maxClock)) future (sane .timely .times) .0
 
     ahead : s .view .clock ≤ e .time
-    ahead = rw future at (sane .ahead) .0
+    ahead = subst (Each (λ (y : Event). s .view .clock ≤ y .time)) future (sane .ahead) .0
 
     listed : Listing (a .rows) (x .moving) none s′
     unfolding clocked listsIn
     listed =
-        listing-ready w _ _ _ none none s s′ (h .listing) ready later (arrives .shows)
+        listing-ready w (a .rows) (x .moving) (x .moving) none none s s′ (h .listing) ready later (arrives .shows)
         (omega (arith, arrives .steady .count, arrivals-length due (s .serial) (s .rel), split-length (Machine.due (e .time)) (s .fel)))
         (λ q hq. lists-set-rel s ready q hq) refl refl (h .listing .mover)
 
@@ -99,25 +102,27 @@ module _ {m : BlockModel} {tape : List (List ℕ)} (proper : Proper m tape) (tap
         let n : x .serial ≡ s .serial = h .counting .serial in
         rw n (record { listing = listed; tallying = tallied; counting = counted })
 
+    -- a clock move over rows: who is due goes to REL with fresh serials, as the machine moves them
     pub clock-stands : Stands tapeBytes (moveClock w (r .tally) x (e .time)) none (Machine.moveClock (e .time) s)
     clock-stands =
-        rw (moved-clock (e .time) s) moved
+        subst (Stands tapeBytes (moveClock w (r .tally) x (e .time)) none) (sym (moved-clock (e .time) s)) moved
 
     pub clock-moving : Machine.moveClock (e .time) s .moving ≡ s .moving
     unfolding clocked
-    clock-moving = cc (moved-clock (e .time) s)
+    clock-moving = ap (λ z. z .moving) (moved-clock (e .time) s)
 
   -- ---- Where there is one
 
   events-none : 1024 ≤ first w fel → nextEvents w (r .tally) x ≡ r
   unfolding nextEvents rowsOf
-  events-none n = rw le-ltb
+  events-none n = rw (le-ltb (first w fel) 1024 n)
 
   events-some : first w fel < 1024
       → nextEvents w (r .tally) x ≡ moveClock w (r .tally) x (eventAt w (first w fel) .time)
   unfolding nextEvents eventAt
   events-some n =
-      rw (lt-ltb (first w fel) 1024 n, lt-ltb (x .serial) 4000000000 (omega (arith, h .counting .serial, sane .serials)))
+      let small : x .serial < 4000000000 = omega (arith, h .counting .serial, sane .serials) in
+      rw (lt-ltb (first w fel) 1024 n, lt-ltb (x .serial) 4000000000 small)
 
   pub events-stands : s .moving ≡ none
       → Stands tapeBytes (nextEvents w (r .tally) x) none (Machine.nextEvents (s .fel) s) × (Machine.nextEvents (s .fel) s .moving ≡ none)

@@ -1,6 +1,6 @@
 -- A clock move that is only counted stands for the machine's sampled servers and queues: their sums and longest, brought up to date, are
 -- the machine's. Sums of 64 bits hold them.
-use Rattle.machine.specs.All.{cases, ℕ, zero, suc, _+_, _*_, _-_, max, _≤_, _<_, _≡_, refl, sym, ap, _∙_, _≢_, List, [], _∷_, map, mul-le-mul, arith, ltb-true, ltb-false, ltb, length, getD, length-map, length-set, List·getD-eq-default, getD-set-same, getD-set-other, maxClock, Transaction, bit, Server, Queue, idleServer, emptyQueue, BlockModel, State, Each}
+use Rattle.machine.specs.All.{ℕ, zero, suc, _+_, _*_, _-_, max, _≤_, _<_, _≡_, refl, sym, ap, _∙_, _≢_, List, [], _∷_, map, mul-le-mul, arith, ltb-true, ltb-false, ltb, length, getD, length-map, length-set, List·getD-eq-default, getD-set-same, getD-set-other, maxClock, Transaction, bit, Server, Queue, idleServer, emptyQueue, BlockModel, State, Each, Bool, true, false}
 use Rattle.machine.specs.Turn as Machine
 use Rattle.machine.proofs.{decoding.Proper.Proper, decoding.Proper.servers, runs.Shape.each-getD, runs.Shape.server-length}
 use Rattle.layout.specs.All.{most64}
@@ -33,7 +33,7 @@ module _ (ticks : ℕ) (d : Server) where
   unfolding Machine.sampleServers
   sampled-length [] ql = refl
   sampled-length (v ∷ l) [] = refl
-  sampled-length (v ∷ l) (q ∷ ql) = cc (sampled-length l ql)
+  sampled-length (v ∷ l) (q ∷ ql) = ap suc (sampled-length l ql)
 
   sampled-at : (l : List Server) (ql : List (List Transaction)) (i : ℕ) → i < length l → i < length ql
       → getD (Machine.sampleServers ticks l ql) i d ≡ sampled ticks (getD l i d) (getD ql i [])
@@ -50,7 +50,8 @@ map-at f (x ∷ l) (suc i) a b h = map-at f l i a b (omega arith)
 
 -- ---- The laws: a move to a time, in a turn that is counted already
 
-module _ {m : BlockModel} {tape : List (List ℕ)} (proper : Proper m tape) (s : State) (sane : Sane m s) (time : ℕ) (on : s .view .clock ≤ time) (most : time ≤ maxClock)
+module _ {m : BlockModel} {tape : List (List ℕ)} (proper : Proper m tape) (s : State) (sane : Sane m s) (time : ℕ)
+    (on : s .view .clock ≤ time) (most : time ≤ maxClock)
     (tapeBytes t : List ℕ) (h : Tallying tapeBytes t s) (fewer : getD t 1536 0 < s .turns) where
   abbrev n : ℕ
   n = servers m
@@ -68,7 +69,7 @@ module _ {m : BlockModel} {tape : List (List ℕ)} (proper : Proper m tape) (s :
   few = omega arith
 
   n-few : n ≤ 64
-  n-few = omega arith
+  n-few = omega (arith, proper .facilities, proper .storages)
 
   servers-are : length (s .view .servers) ≡ n
   servers-are = server-length (sane .shape)
@@ -81,20 +82,23 @@ module _ {m : BlockModel} {tape : List (List ℕ)} (proper : Proper m tape) (s :
 
   moves : getD t′ 1536 0 ≡ getD t 1536 0 + 1
   unfolding countMove
-  moves = getD-set-same t 1536 _ 0 (omega arith) ∙ omega arith
+  moves = getD-set-same t 1536 _ 0 (omega (arith, h .size)) ∙ omega (arith, sane .turns)
 
   below : (i : ℕ) → i < 1536 → getD t′ i 0 ≡ getD t i 0
   below i low = other i (λ e. omega arith)
 
   seen : Seen t′ time (s .turns)
-  seen = seen-later t t′ clock time _ (h .seen) on most below moves fewer
+  seen = seen-later t t′ clock time (s .turns) (h .seen) on most below moves fewer
 
-  sum-after : (at from i : ℕ) → i < 96 → at < 1344 → from < 1344 → (sum k : ℕ) → sumNow t at from i clock ≡ sum → getD t from 0 ≡ k → k ≤ 100000001 → sum + k * ticks < most64
+  sum-after : (at from i : ℕ) → i < 96 → at < 1344 → from < 1344 → (sum k : ℕ) → sumNow t at from i clock ≡ sum → getD t from 0 ≡ k
+      → k ≤ 100000001 → sum + k * ticks < most64
       → sumNow t′ at from i time ≡ sum + k * ticks
-  sum-after at from i hi a f = sum-later t t′ clock time _ (h .seen) on most below moves at from i hi (omega arith) (omega arith)
+  sum-after at from i hi a f = sum-later t t′ clock time (s .turns) (h .seen) on most below moves at from i hi (omega arith) (omega arith)
 
-  longest-after : (at from i : ℕ) → i < 96 → at < 1344 → from < 1344 → (longest k : ℕ) → longestNow t at from i ≡ longest → getD t from 0 ≡ k → longestNow t′ at from i ≡ max longest k
-  longest-after at from i hi a f = longest-later t t′ clock time _ (h .seen) on most below moves at from i hi (omega arith) (omega arith)
+  longest-after : (at from i : ℕ) → i < 96 → at < 1344 → from < 1344 → (longest k : ℕ) → longestNow t at from i ≡ longest
+      → getD t from 0 ≡ k → longestNow t′ at from i ≡ max longest k
+  longest-after at from i hi a f =
+      longest-later t t′ clock time (s .turns) (h .seen) on most below moves at from i hi (omega arith) (omega arith)
 
   -- ---- Servers
 
@@ -109,7 +113,7 @@ module _ {m : BlockModel} {tape : List (List ℕ)} (proper : Proper m tape) (s :
 
   -- what holds of each server holds of one that is there
   of-server : (P : Server → Type 0) → Each P (s .view .servers) → P (idleServer 0) → (v : ℕ) → P (server v)
-  of-server P e p v = each-getD P (s .view .servers) v _ e p
+  of-server P e p v = each-getD P (s .view .servers) v (idleServer 0) e p
 
   units-few : (v : ℕ) → server v .inUse ≤ 65535
   unfolding idleServer
@@ -120,11 +124,11 @@ module _ {m : BlockModel} {tape : List (List ℕ)} (proper : Proper m tape) (s :
 
   unit-sum : (v : ℕ) → server v .unitTicks ≤ 65535 * maxClock
   unfolding idleServer
-  unit-sum v = omega (arith, of-server (λ x. x .unitTicks ≤ 65535 * s .view .clock) (sane .unit-ticks) (omega arith) v)
+  unit-sum v = omega (arith, of-server (λ x. x .unitTicks ≤ 65535 * s .view .clock) (sane .unit-ticks) (omega arith) v, sane .timely .clock)
 
   wait-sum : (v : ℕ) → server v .waitTicks ≤ 1024 * maxClock
   unfolding idleServer
-  wait-sum v = omega (arith, of-server (λ x. x .waitTicks ≤ 1024 * s .view .clock) (sane .wait-ticks) (omega arith) v)
+  wait-sum v = omega (arith, of-server (λ x. x .waitTicks ≤ 1024 * s .view .clock) (sane .wait-ticks) (omega arith) v, sane .timely .clock)
 
   -- the machine's server after the move
   record After (v : ℕ) : Type 0 where
@@ -138,14 +142,14 @@ module _ {m : BlockModel} {tape : List (List ℕ)} (proper : Proper m tape) (s :
   after-there : (v : ℕ) → v < n → After v
   after-there v hv =
       let is : after v ≡ sampled ticks (server v) (line v) =
-      sampled-at ticks _ _ _ v (omega (arith, servers-are)) (omega arith) in
+      sampled-at ticks (idleServer 0) (s .view .servers) (s .ql) v (omega (arith, servers-are)) (omega (arith, sane .shape .ql-length)) in
       record {
-        in-use = cc is;
-        holder = cc is;
-        preempted = cc is;
-        units = cc is;
-        waits = cc is;
-        longest = cc is;
+        in-use = ap (λ x. x .inUse) is;
+        holder = ap (λ x. x .holder) is;
+        preempted = ap (λ x. bit (x .preempted)) is;
+        units = ap (λ x. x .unitTicks) is;
+        waits = ap (λ x. x .waitTicks) is;
+        longest = ap (λ x. x .longest) is;
       }
 
   after-none : (v : ℕ) → n ≤ v → After v
@@ -159,32 +163,43 @@ module _ {m : BlockModel} {tape : List (List ℕ)} (proper : Proper m tape) (s :
       record {
         in-use = ap (λ x. x .inUse) (is′ ∙ sym is);
         holder = ap (λ x. x .holder) (is′ ∙ sym is);
-        preempted = cc (is′, is);
+        preempted = ap (λ x. bit (x .preempted)) (is′ ∙ sym is);
         units = omega (arith, ap (λ x. x .unitTicks) is′, ap (λ x. x .unitTicks) is, ap (λ x. x .inUse * ticks) is);
         waits = omega (arith, ap (λ x. x .waitTicks) is′, ap (λ x. x .waitTicks) is, ap (λ (l : List Transaction). length l * ticks) none);
         longest = omega (arith, ap (λ x. x .longest) is′, ap (λ x. x .longest) is, ap (λ (l : List Transaction). length l) none);
       }
 
   after-at : (v : ℕ) → After v
-  after-at v = cases (ltb v n) (λ e. after-there v (ltb-true v n e)) (λ e. after-none v (ltb-false v n e))
+  after-at v = go (ltb v n) refl
+    where
+      go : (b : Bool) → ltb v n ≡ b → After v
+      go true e = after-there v (ltb-true v n e)
+      go false e = after-none v (ltb-false v n e)
 
   serving : Serving t′ time (Machine.sampleServers ticks (s .view .servers) (s .ql)) (s .ql)
   serving =
       record {
-        in-use = λ v hv. other _ (λ e. omega arith) ∙ h .servers .in-use v hv ∙ sym (after-at v .in-use);
-        holders = λ v hv. other _ (λ e. omega arith) ∙ h .servers .holders v hv ∙ sym (after-at v .holder);
-        preempts = λ v hv. other _ (λ e. omega arith) ∙ h .servers .preempts v hv ∙ sym (after-at v .preempted);
+        in-use = λ v hv. other (512 + v) (λ e. omega arith) ∙ h .servers .in-use v hv ∙ sym (after-at v .in-use);
+        holders = λ v hv. other (960 + v) (λ e. omega arith) ∙ h .servers .holders v hv ∙ sym (after-at v .holder);
+        preempts = λ v hv. other (1024 + v) (λ e. omega arith) ∙ h .servers .preempts v hv ∙ sym (after-at v .preempted);
         held = λ r hr.
-            other _ (λ e. omega arith) ∙ h .servers .held r hr
-            ∙ sym (held-same r _ _ (λ v hv. after-at v .holder));
+            other (1088 + r) (λ e. omega arith) ∙ h .servers .held r hr
+            ∙ sym (held-same r (Machine.sampleServers ticks (s .view .servers) (s .ql)) (s .view .servers) (λ v hv. after-at v .holder));
         unit-ticks = λ v hv.
-            cc (sum-after (576 + v) (512 + v) v (omega arith) (omega arith) (omega arith) (server v .unitTicks) (server v .inUse) (h .servers .unit-ticks v hv) (h .servers .in-use v hv) (omega (arith, units-few v)) (omega (arith, unit-sum v, product-le (server v .inUse) 65535 ticks (units-few v) few)), after-at v .units);
+            sum-after (576 + v) (512 + v) v (omega arith) (omega arith) (omega arith) (server v .unitTicks) (server v .inUse)
+            (h .servers .unit-ticks v hv) (h .servers .in-use v hv) (omega (arith, units-few v))
+            (omega (arith, unit-sum v, product-le (server v .inUse) 65535 ticks (units-few v) few))
+            ∙ sym (after-at v .units);
         wait-ticks = λ v hv.
-            cc (sum-after (640 + v) (768 + v) v (omega arith) (omega arith) (omega arith) (server v .waitTicks) (length (line v)) (h .servers .wait-ticks v hv) (h .servers .waiting v hv) (omega (arith, waiters-few v)) (omega (arith, wait-sum v, product-le (length (line v)) 1024 ticks (waiters-few v) few)), after-at v .waits);
+            sum-after (640 + v) (768 + v) v (omega arith) (omega arith) (omega arith) (server v .waitTicks) (length (line v))
+            (h .servers .wait-ticks v hv) (h .servers .waiting v hv) (omega (arith, waiters-few v))
+            (omega (arith, wait-sum v, product-le (length (line v)) 1024 ticks (waiters-few v) few))
+            ∙ sym (after-at v .waits);
         longest = λ v hv.
-            longest-after _ _ v (omega arith) (omega arith) (omega arith) _ _ (h .servers .longest v hv) (h .servers .waiting v hv)
+            longest-after (704 + v) (768 + v) v (omega arith) (omega arith) (omega arith) (server v .longest) (length (line v))
+            (h .servers .longest v hv) (h .servers .waiting v hv)
             ∙ sym (after-at v .longest);
-        waiting = λ v hv. other _ (λ e. omega arith) ∙ h .servers .waiting v hv;
+        waiting = λ v hv. other (768 + v) (λ e. omega arith) ∙ h .servers .waiting v hv;
       }
 
   -- ---- Queues
@@ -200,11 +215,12 @@ module _ {m : BlockModel} {tape : List (List ℕ)} (proper : Proper m tape) (s :
 
   content-few : (q : ℕ) → queue q .content ≤ 100000001
   unfolding emptyQueue
-  content-few q = omega (arith, of-queue (λ x. x .content ≤ s .turns) (sane .contents) (omega arith) q)
+  content-few q = omega (arith, of-queue (λ x. x .content ≤ s .turns) (sane .contents) (omega arith) q, sane .turns)
 
   content-sum : (q : ℕ) → queue q .contentTicks ≤ 100000001 * maxClock
   unfolding emptyQueue
-  content-sum q = omega (arith, of-queue (λ x. x .contentTicks ≤ 100000001 * s .view .clock) (sane .content-ticks) (omega arith) q)
+  content-sum q =
+      omega (arith, of-queue (λ x. x .contentTicks ≤ 100000001 * s .view .clock) (sane .content-ticks) (omega arith) q, sane .timely .clock)
 
   record QueueAfter (q : ℕ) : Type 0 where
     contents : queue-after q .content ≡ queue q .content
@@ -214,33 +230,43 @@ module _ {m : BlockModel} {tape : List (List ℕ)} (proper : Proper m tape) (s :
   queue-there : (q : ℕ) → q < m .queues → QueueAfter q
   unfolding Machine.sampleQueue
   queue-there q hq =
-      let is = map-at _ (s .view .queues) q emptyQueue emptyQueue (omega arith) in
-      record { contents = ap (λ x. x .content) is; sums = cc is; longest = cc is }
+      let is : queue-after q ≡ Machine.sampleQueue ticks (queue q) =
+      map-at (Machine.sampleQueue ticks) (s .view .queues) q emptyQueue emptyQueue (omega (arith, sane .shape .queue-length)) in
+      record { contents = ap (λ x. x .content) is; sums = ap (λ x. x .contentTicks) is; longest = ap (λ x. x .longest) is }
 
   queue-none : (q : ℕ) → m .queues ≤ q → QueueAfter q
   unfolding emptyQueue
   queue-none q le =
-      let is = List·getD-eq-default (s .view .queues) emptyQueue {n = q} (omega arith) in
-      let is′ =
+      let is : queue q ≡ emptyQueue = List·getD-eq-default (s .view .queues) emptyQueue {n = q}
+      (omega (arith, sane .shape .queue-length)) in
+      let is′ : queue-after q ≡ emptyQueue =
       List·getD-eq-default (map (Machine.sampleQueue ticks) (s .view .queues)) emptyQueue {n = q}
-      (omega (arith, length-map (s .view .queues) (Machine.sampleQueue ticks))) in
+      (omega (arith, length-map (s .view .queues) (Machine.sampleQueue ticks), sane .shape .queue-length)) in
       record {
-        contents = cc (is′, is);
+        contents = ap (λ x. x .content) (is′ ∙ sym is);
         sums = omega (arith, ap (λ x. x .contentTicks) is′, ap (λ x. x .contentTicks) is, ap (λ x. x .content * ticks) is);
         longest = omega (arith, ap (λ x. x .longest) is′, ap (λ x. x .longest) is, ap (λ x. x .content) is);
       }
 
   queue-at : (q : ℕ) → QueueAfter q
-  queue-at q = cases (ltb q (m .queues)) (λ e. queue-there q (ltb-true q _ e)) (λ e. queue-none q (ltb-false q _ e))
+  queue-at q = go (ltb q (m .queues)) refl
+    where
+      go : (b : Bool) → ltb q (m .queues) ≡ b → QueueAfter q
+      go true e = queue-there q (ltb-true q (m .queues) e)
+      go false e = queue-none q (ltb-false q (m .queues) e)
 
   queueing : Queueing t′ time (map (Machine.sampleQueue ticks) (s .view .queues))
   queueing =
       record {
-        contents = λ q hq. other _ (λ e. omega arith) ∙ h .queues .contents q hq ∙ sym (queue-at q .contents);
+        contents = λ q hq. other (832 + q) (λ e. omega arith) ∙ h .queues .contents q hq ∙ sym (queue-at q .contents);
         content-ticks = λ q hq.
-            cc (sum-after (864 + q) (832 + q) (64 + q) (omega arith) (omega arith) (omega arith) (queue q .contentTicks) (queue q .content) (h .queues .content-ticks q hq) (h .queues .contents q hq) (content-few q) (omega (arith, content-sum q, product-le (queue q .content) 100000001 ticks (content-few q) few)), queue-at q .sums);
+            sum-after (864 + q) (832 + q) (64 + q) (omega arith) (omega arith) (omega arith) (queue q .contentTicks) (queue q .content)
+            (h .queues .content-ticks q hq) (h .queues .contents q hq) (content-few q)
+            (omega (arith, content-sum q, product-le (queue q .content) 100000001 ticks (content-few q) few))
+            ∙ sym (queue-at q .sums);
         longest = λ q hq.
-            longest-after _ _ _ (omega arith) (omega arith) (omega arith) _ _ (h .queues .longest q hq) (h .queues .contents q hq)
+            longest-after (896 + q) (832 + q) (64 + q) (omega arith) (omega arith) (omega arith) (queue q .longest) (queue q .content)
+            (h .queues .longest q hq) (h .queues .contents q hq)
             ∙ sym (queue-at q .longest);
       }
 
@@ -249,15 +275,20 @@ module _ {m : BlockModel} {tape : List (List ℕ)} (proper : Proper m tape) (s :
   sampling : Sampling tapeBytes t′ (s .samples)
   sampling =
       record {
-        begins = λ l hl. rw (other (928 + l) (λ e. omega arith)) (h .samples .begins l hl);
-        left = λ l hl. other _ (λ e. omega arith) ∙ h .samples .left l hl;
+        begins = λ l hl. rw (other (928 + l) (λ e. omega (arith, few-lists))) (h .samples .begins l hl);
+        left = λ l hl. other (944 + l) (λ e. omega arith) ∙ h .samples .left l hl;
       }
     where
       few-lists : length (s .samples) ≤ 16
-      few-lists = omega arith
+      few-lists = omega (arith, sane .shape .sample-lists, proper .lists)
 
   pub tally-moved : Tallied tapeBytes (countMove t)
-      (record { clock = time; entries = s .view .entries; queues = map (Machine.sampleQueue ticks) (s .view .queues); servers = Machine.sampleServers ticks (s .view .servers) (s .ql) })
+      (record {
+        clock = time;
+        entries = s .view .entries;
+        queues = map (Machine.sampleQueue ticks) (s .view .queues);
+        servers = Machine.sampleServers ticks (s .view .servers) (s .ql);
+      })
       (s .ql) (s .samples) (s .turns) (s .records)
   unfolding countMove
   tally-moved =

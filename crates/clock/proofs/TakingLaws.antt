@@ -1,6 +1,6 @@
 -- The taking follows the machine: where the rows stand for a state before a turn, what `take` leaves stands for the state in which
 -- the turn's block finds the machine.
-use Rattle.machine.specs.All.{ℕ, suc, _≤_, _<_, _≡_, refl, sym, subst, List, [], _∷_, Option, none, some, arith, lt-ltb, le-ltb, maxTurns, Transaction, Event, BlockModel, State, setTurns, toRel}
+use Rattle.machine.specs.All.{ℕ, suc, _≤_, _<_, _≡_, refl, sym, subst, List, [], _∷_, Option, none, some, arith, lt-ltb, le-ltb, maxTurns, Transaction, Event, BlockModel, State, setTurns, toRel, ap, _∙_, false, withReturning}
 use Rattle.machine.specs.Turn as Machine
 use Rattle.machine.proofs.decoding.Proper.{Proper}
 use Rattle.rows_laws.specs.All.{rel, transactionAt}
@@ -16,7 +16,7 @@ module _ (n : ℕ) where
   arriveAll-turns : (l : List Event) (s : State) → Machine.arriveAll l (setTurns n s) ≡ setTurns n (Machine.arriveAll l s)
   unfolding Machine.arriveAll toRel
   arriveAll-turns [] s = refl
-  arriveAll-turns (e ∷ l) s = arriveAll-turns l _
+  arriveAll-turns (e ∷ l) s = arriveAll-turns l (toRel (withReturning false (e .who)) s)
 
   nextEvents-turns : (l : List Event) (s : State) → Machine.nextEvents l (setTurns n s) ≡ setTurns n (Machine.nextEvents l s)
   unfolding Machine.nextEvents Machine.moveClock Machine.sample
@@ -31,13 +31,14 @@ module _ (n : ℕ) where
   takeReady-turns : (l : List Transaction) (s : State) → Machine.takeReady l (setTurns n s) ≡ setTurns n (Machine.takeReady l s)
   unfolding Machine.takeReady
   takeReady-turns [] s =
-      rw (nextEvents-turns (s .fel) s, takeFirst-turns (Machine.nextEvents (s .fel) s .rel) (Machine.nextEvents (s .fel) s))
-  takeReady-turns (t ∷ l) s = takeFirst-turns _ s
+      ap (λ (x : State). Machine.takeFirst (x .rel) x) (nextEvents-turns (s .fel) s)
+      ∙ takeFirst-turns (Machine.nextEvents (s .fel) s .rel) (Machine.nextEvents (s .fel) s)
+  takeReady-turns (t ∷ l) s = takeFirst-turns (t ∷ l) s
 
 -- ---- A turn is counted
 
 sane-counted : {m : BlockModel} (s : State) → s .turns < maxTurns → Sane m s → Sane m (setTurns (suc (s .turns)) s)
-sane-counted s few k = sane-turns _ _ s (omega arith) (omega arith) k
+sane-counted s few k = sane-turns (suc (s .turns)) (s .end) s (omega arith) (omega arith) k
 
 stands-counted : (tapeBytes : List ℕ) (r : Rows) (o : Option Transaction) (s : State) → s .turns < maxTurns → Stands tapeBytes r o s
     → Stands tapeBytes (rowsOf (counted (r .scalars)) (r .work) (r .tally)) o (setTurns (suc (s .turns)) s)
@@ -52,7 +53,7 @@ stands-counted tapeBytes r o s few h =
             waits = h .tallying .waits;
             seen =
                 record {
-                  moves = omega arith;
+                  moves = omega (arith, h .tallying .seen .moves);
                   before = h .tallying .seen .before;
                   clocks = h .tallying .seen .clocks;
                   current = h .tallying .seen .current;
@@ -68,7 +69,7 @@ stands-counted tapeBytes r o s few h =
             serial = h .counting .serial;
             made = h .counting .made;
             ended = h .counting .ended;
-            turns = omega arith;
+            turns = omega (arith, h .counting .turns);
             used = h .counting .used;
             end = h .counting .end;
           };
@@ -76,7 +77,8 @@ stands-counted tapeBytes r o s few h =
 
 -- ---- The law
 
-module _ {m : BlockModel} {tape : List (List ℕ)} (proper : Proper m tape) (tapeBytes : List ℕ) (r : Rows) (s : State) (sane : Sane m s) (few : s .turns < maxTurns) where
+module _ {m : BlockModel} {tape : List (List ℕ)} (proper : Proper m tape) (tapeBytes : List ℕ) (r : Rows) (s : State) (sane : Sane m s)
+    (few : s .turns < maxTurns) where
   abbrev taken : Rows
   taken = take (r .work) (r .tally) (r .scalars)
 
@@ -91,10 +93,11 @@ module _ {m : BlockModel} {tape : List (List ℕ)} (proper : Proper m tape) (tap
   take-moving : (t : Transaction) → Stands tapeBytes r (some t) s → Stands tapeBytes taken (some t) s⁺
   unfolding take
   take-moving t h =
-      rw (lt-ltb _ 1024 (h .listing .mover .0 .row)) (stands-counted tapeBytes r _ s few h)
+      rw (lt-ltb (r .scalars .moving) 1024 (h .listing .mover .0 .row)) (stands-counted tapeBytes r (some t) s few h)
 
   -- else somebody is on REL, or the clock moves
-  take-next : Stands tapeBytes r none s → s .moving ≡ none → Stands tapeBytes taken (Machine.takeReady (s .rel) s⁺ .moving) (Machine.takeReady (s .rel) s⁺)
+  take-next : Stands tapeBytes r none s → s .moving ≡ none
+      → Stands tapeBytes taken (Machine.takeReady (s .rel) s⁺ .moving) (Machine.takeReady (s .rel) s⁺)
   unfolding take Machine.takeReady rowsOf counted listsIn
   take-next h idle = go (head-shows _ _ _ (h .listing .shows) rel (omega arith))
     where
@@ -125,5 +128,6 @@ module _ {m : BlockModel} {tape : List (List ℕ)} (proper : Proper m tape) (tap
   take-by none e h =
       rw (takeReady-turns (suc (s .turns)) (s .rel) s) at (take-next h e)
 
+  -- taking as a whole, with the clock move where REL is empty
   pub take-stands : Stands tapeBytes r (s .moving) s → Stands tapeBytes taken (takenOf s .moving) (takenOf s)
-  take-stands h = take-by _ refl h
+  take-stands h = take-by (s .moving) refl h

@@ -4,10 +4,13 @@ use Rattle.clock.proofs as our
 use our.Steps.{events-none, events-spent, events-come}
 use our.taking.next_events as f
 
-returns-3 : f.Tie.Need-returns-3
-returns-3 c =
-    let b = c .before .before .before .before .before .before .before in
-    events-come _ _ _ _ _ (omega arith) (omega arith) (rw (← b .before .before .before .before .before .first .ensures) (b .time .ensures)) (c .before .before .before .before .move-clock .ensures)
+returns-last : f.Tie.Need-returns-3
+returns-last c =
+    let at-move-clock : f.Tie.After-move-clock = search in
+    let at-time : f.Tie.After-time = search in
+    let at-first : f.Tie.After-first = search in
+    events-come _ _ _ _ _ (omega arith) (omega arith) (rw (← at-first .first .ensures) (at-time .time .ensures))
+    (at-move-clock .move-clock .ensures)
 
 pub next-events-spec : {M : Type 1} → f.Statement.statement M
 next-events-spec =
@@ -22,4 +25,4 @@ next-events-spec =
     (search needs)
     (search needs)
     (search needs)
-    returns-3)
+    returns-last)
