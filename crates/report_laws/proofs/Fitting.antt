@@ -1,6 +1,6 @@
 -- Every report fits its buffer of 10,240 bytes, and each of its numbers nine groups of seven bits.
 use Rattle.machine.specs.All.{ℕ, suc, _+_, _*_, _^_, _≤_, _<_, mul-le-mul-left, arith, _≡_, refl, sym, ap, _∙_, Bool, List, [], _∷_, _++_, map, Option, none, some, eqb, length, drop, length-append, length-map, length-replicate, sets, length-sets, sets-eq, maxReportNumber, Transaction, Event, Gatherer, Interrupted, flat, Server, Queue, Facts, BlockModel, State, Logged, numberBytes, recordsAt, serverNumbers, queueNumbers, Place, placed, movingOne, places, byNumber, placeNumbers, reportNumbers, reportBytes, Each, maxClock}
-use Rattle.machine.proofs.{decoding.Proper.Proper, decoding.Proper.servers, lists.Sorted.each-insert, lists.Sums.sum-length, runs.Everybody.Maybe, runs.Everybody.Everybody, lists.Sorting.sum-sorted}
+use Rattle.machine.proofs.{decoding.Proper.Proper, decoding.Proper.servers, lists.Sorted.each-insert, lists.Sums.sum-length, runs.Everybody.Maybe, runs.Everybody.Everybody, lists.Sorting.sum-sorted, basic.Each.each-append, basic.Each.each-flat}
 use Rattle.machine.proofs.conservation.Conservation.{Sound, Conserved, sound-conserved}
 use Rattle.codec.proofs.{Numbers.numberBytes-length, Numbers.numberBytes-longest, Stores.sets-append, Writing.put-room}
 use Rattle.state.proofs.{Sane.Sane, Gains.map-each, Numbered.Numbered, Numbered.numbered}
@@ -54,18 +54,6 @@ written-from-start l bytes h =
     putAll-room l 0 bytes (omega arith)
     ∙ ap (λ n. written n (sets bytes 0 (bytesOf l))) start
     ∙ ap (written (size l)) (sets-eq (bytesOf l) bytes 0 (omega arith) ∙ ap (λ n. bytesOf l ++ drop n bytes) start)
-
--- ---- Lists of which each passes
-
-module _ {A : Type 0} (P : A → Type 0) where
-  each-append : (k l : List A) → Each P k → Each P l → Each P (k ++ l)
-  each-append [] l h g = g
-  each-append (x ∷ k) l h g = (h .0, each-append k l (h .1) g)
-
-  each-flat : (ls : List (List A)) → Each (Each P) ls → Each P (flat ls)
-  unfolding flat
-  each-flat [] h = tt
-  each-flat (l ∷ ls) h = each-append l (flat ls) (h .0) (each-flat ls (h .1))
 
 -- ---- Places
 

@@ -1,7 +1,7 @@
 -- Where all of a QL go to REL at once, everybody there fits: no block of the model takes more units of the storage than are left.
 use Rattle.machine.specs.All.{ℕ, zero, suc, _+_, _*_, _-_, _%_, _≤_, _<_, _≡_, _≢_, refl, sym, ap, _∙_, Bool, true, false, true≢false, cond, List, [], _∷_, arith, zero-add, add-zero, lt-ltb, eq-eqb, ne-eqb, ltb-true, ltb-false, eqb-true, ltb, eqb, length, getD, Transaction, always, whenTrue, up, down, Block, generate, advance, terminate, takes, frees, waitServer, waitTerms, moves, assign, priority, split, counts, assemble, preempt, giveBack, facility, storage, facts, BlockModel, Each}
 use Rattle.machine.proofs.decoding.Proper.{Proper, Names, ProperBlock, Role, generating, taking, preempting, neither, role}
-use Rattle.machine.proofs.{nobody_able.Waiting.AtServer, nobody_able.QueueRemove.walk}
+use Rattle.machine.proofs.{nobody_able.Waiting.AtServer, nobody_able.QueueRemove.walk, basic.Bools.cond-true, basic.Bools.cond-false}
 use Rattle.layout.specs.All.{blockForms, blockNumbers, At, Represents}
 use Rattle.layout.proofs.Operands.{at-number}
 use Rattle.rows_laws.specs.All.{rel, tail, links, load, first, outranks}
@@ -10,14 +10,6 @@ use Rattle.servers_laws.specs.{unitsAt, tooMany, noneTooMany, aheadOf, m
 use Rattle.servers_laws.proofs.Named.{kind-at, units-of, named}
 
 -- ---- What is asked first
-
-both-true : (a b : Bool) → cond a b false ≡ true → (a ≡ true) × (b ≡ true)
-both-true true b e = (refl, e)
-both-true false b e = absurd (true≢false (sym e))
-
-second-true : (a b : Bool) → cond a false b ≡ true → b ≡ true
-second-true true b e = absurd (true≢false (sym e))
-second-true false b e = e
 
 pub record AtOnce (tables w : List ℕ) (v edition left : ℕ) : Type 0 where
   pub first-edition : edition ≡ 1
@@ -28,15 +20,15 @@ pub record AtOnce (tables w : List ℕ) (v edition left : ℕ) : Type 0 where
 -- the last of list p stands before the first of REL
 leads : (w : List ℕ) (p : ℕ) → aheadOf w p ≡ true → first w rel < 1024 → outranks w (load w (tail p) - links) (first w rel) ≡ true
 unfolding aheadOf
-leads w p e h = both-true (ltb (load w (tail p) - links) 1024) _ (rw (lt-ltb (first w rel) 1024 h) at e) .1
+leads w p e h = cond-true (ltb (load w (tail p) - links) 1024) _ (rw (lt-ltb (first w rel) 1024 h) at e) .1
 
 -- what each of the five tests says where all of them hold
 pub at-once : (tables w : List ℕ) (v edition left n : ℕ) → atOnce tables w v edition left n ≡ true → AtOnce tables w v edition left
 unfolding atOnce
 at-once tables w v edition left n e =
-    let a = both-true (eqb edition 1) _ (second-true (ltb n many) _ e) in
-    let b = both-true (ltb (first w v) 1024) _ (a .1) in
-    let c = both-true (aheadOf w v) _ (b .1) in
+    let a = cond-true (eqb edition 1) _ (cond-false (ltb n many) _ e .1) in
+    let b = cond-true (ltb (first w v) 1024) _ (a .1) in
+    let c = cond-true (aheadOf w v) _ (b .1) in
     record {
       first-edition = eqb-true _ 1 (a .0);
       some = ltb-true _ 1024 (b .0);

@@ -1,10 +1,10 @@
 -- A QL that grows by one after the other, where the statistics of its server are up to date.
 use Rattle.machine.specs.All.{cases, ℕ, _+_, _≤_, _<_, _≡_, _≢_, sym, _∙_, true, false, min, List, arith, mod-lt, ltb-true, ltb-false, ltb, length, getD, set, getD-set-same, getD-set-other, set-out, set-set}
+use Rattle.machine.proofs.basic.Bools.{cond-false}
 use Rattle.layout.specs.Layout as Layout
 use Rattle.state.specs.All.{behind, updateServer}
 use Rattle.servers_laws.specs.{Units.serverAt, Units.inUse, Taking.longer}
 use Rattle.turn_laws.specs.{serverOf, placeIn, short, lengthened, crowded, lengthenedBy}
-use Rattle.turn_laws.proofs.Staying.{asked-false}
 
 module _ (tables tally : List ℕ) (block : ℕ) where
   abbrev v : ℕ
@@ -23,7 +23,7 @@ module _ (tables tally : List ℕ) (block : ℕ) where
   -- statistics are up to date, and fewer units are free than the ENTER takes
   pub crowded-is : crowded tables tally block ≡ true → (behind tally v ≡ false) × (short tables tally block ≡ true)
   unfolding crowded
-  crowded-is h = asked-false (behind tally v) _ h
+  crowded-is h = cond-false (behind tally v) _ h
 
   module _ (n : ℕ) where
     abbrev tally₁ : List ℕ

@@ -1,10 +1,10 @@
 -- Those who go back to a QL one after the other: their chain is that of REL, of which it is cut off behind the last of them.
 use Rattle.machine.specs.All.{cases, ℕ, zero, suc, _+_, _-_, _%_, _/_, _≤_, _<_, _≡_, _≢_, refl, sym, ap, _∙_, Bool, true, false, cond, _&&_, List, arith, lt-ltb, le-ltb, eq-eqb, ltb-true, ltb-false, eqb-true, eqb-false, not-true, ltb, eqb, length, getD}
+use Rattle.machine.proofs.basic.Bools.{cond-true, cond-false}
 use Rattle.layout.specs.Layout as Layout
 use Rattle.rows_laws.specs.All.{rel, links, place, head, tail, link, fieldAt, nowhere, load, store, read, outranks, first, endAt, insertAt, removeRow, removeAt, takeFirst, spotBefore, spot, note, put, lineUp}
 use Rattle.rows_laws.proofs.Store.{length-store, load-same, load-other, store-kept, store-swap, store-again}
 use Rattle.turn_laws.specs.{serverOf, backTo, lined, linedTimes, Lines, endsAt, comesWith, WhereLine, tied}
-use Rattle.turn_laws.proofs.Staying.{asked-true, asked-false}
 
 -- ---- Stores and the end of a list
 
@@ -320,9 +320,9 @@ pub comes-is : (w : List ℕ) (n block standing serial : ℕ) → comesWith w n 
     → (n < 1024) × (read w 6 n ≡ block) × (read w 1 n ≡ standing) × (serial < read w 7 n)
 unfolding comesWith
 comes-is w n block standing serial h =
-    let a = asked-true (ltb n 1024) _ h in
-    let b = asked-true (eqb (read w 6 n) block) _ (a .1) in
-    let c = asked-true (eqb (read w 1 n) standing) _ (b .1) in
+    let a = cond-true (ltb n 1024) _ h in
+    let b = cond-true (eqb (read w 6 n) block) _ (a .1) in
+    let c = cond-true (eqb (read w 1 n) standing) _ (b .1) in
     (ltb-true n 1024 (a .0), eqb-true _ block (b .0), eqb-true _ standing (c .0), ltb-true serial _ (c .1))
 
 -- one step of the walk
@@ -380,9 +380,9 @@ unfolding endsAt
 ends-is-last {w} {v} {c} {k} h =
     cases (eqb c (head v))
     (λ e. at-head (eqb-true c (head v) e))
-    (λ e. let a = asked-false (ltb c links) _ (rw e at h) in
-    let b = asked-true (ltb (c - links) 1024) _ (a .1) in
-    let d = asked-false (eqb (c - links) k) _ (b .1) in
+    (λ e. let a = cond-false (ltb c links) _ (rw e at h) in
+    let b = cond-true (ltb (c - links) 1024) _ (a .1) in
+    let d = cond-false (eqb (c - links) k) _ (b .1) in
     behind-row (c - links) (ltb-true _ 1024 (b .0)) (omega (arith, ltb-false c links (a .0))) (eqb-false (c - links) k (d .0))
     (not-true _ (d .1)))
 

@@ -1,6 +1,7 @@
 -- The turn of one that comes back and waits again: it leaves REL for its list, and nothing else changes but the turns and that list's
 -- length.
 use Rattle.machine.specs.All.{cases, ℕ, _+_, _-_, _%_, _<_, _≡_, refl, leb, lt-leb, sym, _∙_, Bool, true, false, cond, true≢false, List, arith, ltb-true, ltb, eqb, eqb-true, eq-eqb, le-ltb, getD}
+use Rattle.machine.proofs.basic.Bools.{cond-true, cond-false}
 use Rattle.constants.specs.declared.model.Model.{Model}
 use Rattle.layout.specs.Layout as Layout
 use Rattle.rows_laws.specs.All.{rel, wsl, place, tail, head, fieldAt, load, store, read, first, takeFirst, put, endAt, removeRow, removeAt, lineUp}
@@ -39,23 +40,13 @@ pub record Quiet (tables : List ℕ) (kind block : ℕ) : Type 0 where
   pub is : getD tables (placeIn block) 0 ≡ kind
   pub unread : getD tables (Layout.asked + (block - 1)) 0 ≡ 0
 
--- what is asked before something that holds
-pub asked-true : (a b : Bool) → cond a b false ≡ true → (a ≡ true) × (b ≡ true)
-asked-true true b e = (refl, e)
-asked-true false b e = absurd (true≢false (sym e))
-
--- a test that must not hold, and one that must
-pub asked-false : (a b : Bool) → cond a false b ≡ true → (a ≡ false) × (b ≡ true)
-asked-false true b e = absurd (true≢false (sym e))
-asked-false false b e = (refl, e)
-
 -- what `quiet` says of a block: it is of this kind, and no WAITIF reads what waiting there changes
 pub quiet-is : (tables : List ℕ) (kind block : ℕ) → quiet tables kind block ≡ true → Quiet tables kind block
 unfolding quiet
 quiet-is tables kind block h =
-    let a = asked-false (eqb block 0) _ h in
-    let b = asked-true (ltb (block - 1) 256) _ (a .1) in
-    let c = asked-true (eqb (getD tables (placeIn block) 0) kind) _ (b .1) in
+    let a = cond-false (eqb block 0) _ h in
+    let b = cond-true (ltb (block - 1) 256) _ (a .1) in
+    let c = cond-true (eqb (getD tables (placeIn block) 0) kind) _ (b .1) in
     record {
       some = λ e. true≢false (rw e at (a .0));
       below = b .0;
@@ -130,7 +121,7 @@ module _ (model : Model) (tables tape w tally trace : List ℕ) (x : Scalars) (n
   module _ (all : allWait tables (model .values) tally (x .clock) block ≡ true) where
     holding : (quiet tables 9 block ≡ true) × (heldByAll tables (model .values) tally (x .clock) (placeIn block) ≡ true)
     unfolding allWait
-    holding = asked-true (quiet tables 9 block) _ all
+    holding = cond-true (quiet tables 9 block) _ all
 
     there₉ : Quiet tables 9 block
     there₉ = quiet-is tables 9 block (holding .0)
