@@ -1,5 +1,5 @@
 -- What the entry points give is what the machine says of the blocks that have terms: LET, WAITIF and IF. For callers.
-use Rattle.machine.specs.All.{ℕ, _+_, _*_, _<_, arith, true, List, _∷_, _++_, _≡_, refl, ap, subst, T, length, getD, View, Relation, Term, constant, minusConstant, parameter, clockTerm, entriesOf, contentOf, unitsInUse, unitsFree, facilityInUse, value, comparison, bracket, evaluate, compare, Block, branch, assign, terminate, BlockModel}
+use Rattle.machine.specs.All.{ℕ, _+_, _*_, _<_, arith, true, List, _∷_, _++_, _≡_, refl, ap, subst, T, length, getD, View, Relation, Term, constant, minusConstant, parameter, clockTerm, entriesOf, contentOf, unitsInUse, unitsFree, facilityInUse, value, comparison, bracket, evaluate, compare, Block, branch, assign, terminate, BlockModel, _&&_, [], worths}
 use Rattle.layout.specs.All.{blockForms, relationNumber, termNumbers, blockNumbers, At, smallTerm, smallBlock, Represents}
 use Rattle.layout.specs.Layout as Layout
 use Rattle.evaluation.specs.{Worth, termAt, compareAt, nestedTerm, nestedBlock, parametersOf}
@@ -25,7 +25,8 @@ two-numbers (value k) h = refl
 two-numbers (comparison r a b) h = absurd h
 two-numbers (bracket e) h = absurd h
 
-module _ {m : BlockModel} {tape : List (List ℕ)} {tapeBytes tables lists : List ℕ} (r : Represents m tape tapeBytes tables lists) (n : Nested m)
+module _ {m : BlockModel} {tape : List (List ℕ)} {tapeBytes tables lists : List ℕ} (r : Represents m tape tapeBytes tables lists)
+    (n : Nested m)
     {w : View} {tally : List ℕ} {clock : ℕ} (s : Sees w tables tally clock) (p : List ℕ) where
   values : Values (m .values) tables
   values = record { stored = r .values; small = r .small-values; nested = n .values }
@@ -35,18 +36,28 @@ module _ {m : BlockModel} {tape : List (List ℕ)} {tapeBytes tables lists : Lis
       termAt tables tally (length (m .values)) clock p at ≡ evaluate (m .values) w (parametersOf p) t
   unfolding termAt evaluate
   term-law t at h small nested =
-      ap (λ (x : Worth). x .worth) (term-found s p _ _ (all-found s p values) t 0 at h small nested)
+      ap (λ (x : Worth). x .worth)
+      (term-found s p (worths w (parametersOf p) (m .values) []) _ (all-found s p values) t 0 at h small nested)
 
   -- left, relation and right from a position on
-  pub compare-law : (a : Term) (o : Relation) (b : Term) (rest : List ℕ) (at : ℕ) → At tables at (termNumbers a ++ (relationNumber o ∷ (termNumbers b ++ rest))) →
+  pub compare-law : (a : Term) (o : Relation) (b : Term) (rest : List ℕ) (at : ℕ)
+      → At tables at (termNumbers a ++ (relationNumber o ∷ (termNumbers b ++ rest))) →
       T (smallTerm a) → T (smallTerm b) → T (nestedTerm 0 a) → T (nestedTerm 0 b) →
       compareAt tables tally (length (m .values)) clock p at ≡ compare (m .values) w (parametersOf p) a o b
   unfolding compareAt compare
   compare-law a o b rest at h sa sb na nb =
-      let f = at-first tables (at + 2) (relationNumber o) (termNumbers b ++ rest) (subst (λ (k : ℕ). At tables (at + k) (relationNumber o ∷ (termNumbers b ++ rest))) (two-numbers a na)
-      (at-back tables at (termNumbers a) (relationNumber o ∷ (termNumbers b ++ rest)) h)) in
+      let back : At tables (at + 2) (relationNumber o ∷ (termNumbers b ++ rest)) =
+      subst (λ (k : ℕ). At tables (at + k) (relationNumber o ∷ (termNumbers b ++ rest))) (two-numbers a na)
+      (at-back tables at (termNumbers a) (relationNumber o ∷ (termNumbers b ++ rest)) h) in
+      let f = at-first tables (at + 2) (relationNumber o) (termNumbers b ++ rest) back in
       let next : at + 2 + 1 ≡ at + 3 = omega arith in
-      rw (← f .found, term-law a at (at-front tables at (termNumbers a) (relationNumber o ∷ (termNumbers b ++ rest)) h) sa na, term-law b (at + 3) (subst (λ (k : ℕ). At tables k (termNumbers b)) next (at-front tables (at + 2 + 1) (termNumbers b) rest (f .after))) sb nb)
+      let right : At tables (at + 3) (termNumbers b) =
+      subst (λ (k : ℕ). At tables k (termNumbers b)) next (at-front tables (at + 2 + 1) (termNumbers b) rest (f .after)) in
+      rw (
+        ← f .found,
+        term-law a at (at-front tables at (termNumbers a) (relationNumber o ∷ (termNumbers b ++ rest)) h) sa na,
+        term-law b (at + 3) right sb nb,
+      )
       (related-by o _ _)
 
   -- ---- Block i (from 0), by its kind
@@ -79,9 +90,10 @@ module _ {m : BlockModel} {tape : List (List ℕ)} {tapeBytes tables lists : Lis
     unfolding nestedBlock blockForms
     if-law a o b target e =
         let block = branch a o b target in
-        let f = at-first tables (Layout.blockWidth * i) 10 _ (numbers block e) in
-        compare-law a o b _ _ (f .after)
-        (and-left (smallTerm a) _ (small block e))
-        (and-left (smallTerm b) true (and-right (smallTerm a) _ (small block e)))
-        (and-left (nestedTerm 0 a) _ (nested block e))
-        (and-left (nestedTerm 0 b) true (and-right (nestedTerm 0 a) _ (nested block e)))
+        let f = at-first tables (Layout.blockWidth * i) 10 (termNumbers a ++ (relationNumber o ∷ (termNumbers b ++ (target ∷ []))))
+        (numbers block e) in
+        compare-law a o b (target ∷ []) (Layout.blockWidth * i + 1) (f .after)
+        (and-left (smallTerm a) (smallTerm b && true) (small block e))
+        (and-left (smallTerm b) true (and-right (smallTerm a) (smallTerm b && true) (small block e)))
+        (and-left (nestedTerm 0 a) (nestedTerm 0 b && true) (nested block e))
+        (and-left (nestedTerm 0 b) true (and-right (nestedTerm 0 a) (nestedTerm 0 b && true) (nested block e)))

@@ -1,5 +1,5 @@
 -- Validation from bytes: in what it accepts, at most four brackets open in a value and none in a term of a block.
-use Rattle.machine.specs.All.{ℕ, zero, suc, _-_, _≡_, Bool, true, false, cond, _&&_, List, _∷_, [], arith, lt-ltb, T, leb, ltb, eqb, inForce, Term, Sum, nothing, plus, minus, Block, BlockModel, facts, Parsed, parsed, refused, Parser, Counts, simpleTerm, number, blockTerm, counted, mentioned, valueNumber, sumTerms, sumField, bracketField, comparisonField, mentionField, taggedTerm, valueTerm, valueField, valueFields, blockField, modelFields, atEnd, beginning, modelOf, Validation, accept, reject, withTape, withModel, validate, allOf, Each}
+use Rattle.machine.specs.All.{ℕ, zero, suc, _-_, _≡_, Bool, true, false, cond, _&&_, List, _∷_, [], arith, lt-ltb, T, leb, ltb, eqb, inForce, Term, Sum, nothing, plus, minus, Block, BlockModel, facts, Parsed, parsed, refused, Parser, Counts, simpleTerm, number, blockTerm, counted, mentioned, valueNumber, sumTerms, sumField, bracketField, comparisonField, mentionField, taggedTerm, valueTerm, valueField, valueFields, blockField, modelFields, atEnd, beginning, modelOf, Validation, accept, reject, withTape, withModel, validate, allOf, Each, sym, subst, length, Relation, comparison, bracket, terminate, relationOf, inValue, wellFormed, tapeOf}
 use Rattle.machine.specs.Limits as Limits
 use Rattle.machine.proofs.{runs.RunLaws.cond-cases, runs.Shape.each-getD, decoding.ProperFrom.block-parsed}
 use Rattle.machine.proofs.decoding.ParserLaws.{Refusal, Gives, Ensures, Any, then, gives, refuses, choice, weaken, repeated, asked, in-range}
@@ -14,15 +14,28 @@ all true false h k = k
 all false b h k = absurd h
 
 opens : (d : ℕ) → T (ltb 0 (suc d))
-opens d = rw (lt-ltb 0 (suc d) (omega arith)) tt
+opens d = subst T (sym (lt-ltb 0 (suc d) (omega arith))) tt
 
 inner : (d : ℕ) → d ≡ suc d - 1
 inner d = omega arith
 
-nested-signed : (d : ℕ) (b : Bool) (t : Term) (e : Sum) → T (nestedTerm d t) → T (nestedSum d e) → T (nestedSum d (cond b (plus t e) (minus t e)))
+nested-comparison : (d : ℕ) (r : Relation) (a b : Term) → T (nestedTerm d a) → T (nestedTerm d b)
+    → T (nestedTerm (suc d) (comparison r a b))
 unfolding nestedTerm
-nested-signed d true t e h k = all (nestedTerm d t) _ h k
-nested-signed d false t e h k = all (nestedTerm d t) _ h k
+nested-comparison d r a b h k =
+    all (ltb 0 (suc d)) _ (opens d)
+    (all (nestedTerm (suc d - 1) a) (nestedTerm (suc d - 1) b) (subst (λ (n : ℕ). T (nestedTerm n a)) (inner d) h)
+    (subst (λ (n : ℕ). T (nestedTerm n b)) (inner d) k))
+
+nested-bracket : (d : ℕ) (e : Sum) → T (nestedSum d e) → T (nestedTerm (suc d) (bracket e))
+unfolding nestedTerm
+nested-bracket d e h = all (ltb 0 (suc d)) (nestedSum (suc d - 1) e) (opens d) (subst (λ (n : ℕ). T (nestedSum n e)) (inner d) h)
+
+nested-signed : (d : ℕ) (b : Bool) (t : Term) (e : Sum) → T (nestedTerm d t) → T (nestedSum d e)
+    → T (nestedSum d (cond b (plus t e) (minus t e)))
+unfolding nestedTerm
+nested-signed d true t e h k = all (nestedTerm d t) (nestedSum d e) h k
+nested-signed d false t e h k = all (nestedTerm d t) (nestedSum d e) h k
 
 -- ---- Terms
 
@@ -41,14 +54,20 @@ module _ (d : ℕ) where
         (both (eqb tag 1) (then (reads 0 Limits.maxConstant) (λ k h. gives tt))
         (both (eqb tag 2) (then (reads 1 Limits.parameterCount) (λ k h. gives tt))
         (both (eqb tag 3) (then (reads 0 0) (λ k h. gives tt))
-        (both (eqb tag 4) (then (reads 1 _) (λ k h. gives tt))
-        (both (eqb tag 5) (then (reads 1 _) (λ k h. gives tt))
-        (both (eqb tag 6) (then (reads 1 _) (λ k h. gives tt))
-        (both (eqb tag 7) (then (reads 1 _) (λ k h. gives tt)) (then (reads 1 _) (λ k h. gives tt)))))))))
+        (both (eqb tag 4) (then (reads 1 (n .blocks)) (λ k h. gives tt))
+        (both (eqb tag 5) (then (reads 1 (n .queues)) (λ k h. gives tt))
+        (both (eqb tag 6) (then (reads 1 (n .storages)) (λ k h. gives tt))
+        (both (eqb tag 7) (then (reads 1 (n .storages)) (λ k h. gives tt)) (then (reads 1 (n .facilities)) (λ k h. gives tt)))))))))
 
 module _ (s : List ℕ) where
   any-number : (lo hi : ℕ) → Ensures Any (number s lo hi)
   any-number lo hi = weaken (λ a h. tt) (in-range Limits.maxNumber s 3 lo hi (omega arith) (omega arith))
+
+  block-term : (n : Counts) → Ensures (Low 0) (blockTerm s n)
+  unfolding blockTerm nestedTerm
+  block-term n =
+      then (any-number 0 9)
+      (λ tag h. both (eqb tag 9) (then (any-number 1 (n .values)) (λ k h. gives tt)) (simple-low 0 (number s) any-number n tag))
 
   counted-any : (n : ℕ) → Ensures Any (counted s n)
   unfolding counted
@@ -82,23 +101,28 @@ module _ (s : List ℕ) where
 
     bracket-field : (p : Parser Term) → Ensures (Low d) p → Ensures (Low (suc d)) (bracketField s p)
     unfolding bracketField
-    bracket-field p e = then (sum-field p e) (λ x h. gives (unfold nestedTerm in all (ltb 0 (suc d)) _ (opens d) (rw (inner d) at h)))
+    bracket-field p e = then (sum-field p e) (λ x h. gives (nested-bracket d x h))
 
     comparison-field : (p : Parser Term) → Ensures (Low d) p → Ensures (Low (suc d)) (comparisonField s p)
     unfolding comparisonField
-    comparison-field p e = then (value-number 1 6) (λ r h. then e (λ a ha. then e (λ b hb. gives (unfold nestedTerm in all (ltb 0 (suc d)) _ (opens d)
-        (all (nestedTerm _ a) _ (rw (inner d) at ha) (rw (inner d) at hb))))))
+    comparison-field p e =
+        then (value-number 1 6) (λ r h. then e (λ a ha. then e (λ b hb. gives (nested-comparison d (relationOf r) a b ha hb))))
+
+    mention-field : (n : Counts) → Ensures (Low d) (mentionField s n)
+    unfolding mentionField nestedTerm
+    mention-field n = then (value-number 1 (n .values)) (λ k h. then (mentioned-any k) (λ m h. gives tt))
 
     tagged-term : (n : Counts) (p q : Parser Term) → Ensures (Low d) p → Ensures (Low d) q → Ensures (Low d) (taggedTerm s n p q)
     unfolding taggedTerm
     tagged-term n p q h k =
         then (value-number 0 11)
-        (λ tag g. both (eqb tag 9) (unfold mentionField nestedTerm in then (value-number 1 _) (λ k h. then (mentioned-any k) (λ m h. gives tt))) (both (eqb tag 10) h (both (eqb tag 11) k (simple-low d _ value-number n tag))))
+        (λ tag g. both (eqb tag 9) (mention-field n)
+        (both (eqb tag 10) h (both (eqb tag 11) k (simple-low d (valueNumber s) value-number n tag))))
 
   value-term : (n : Counts) (d : ℕ) → Ensures (Low d) (valueTerm s n d)
   unfolding valueTerm
   value-term n zero = tagged-term 0 n _ _ (refuses 5 (omega arith, omega arith)) (refuses 5 (omega arith, omega arith))
-  value-term n (suc d) = tagged-term _ n _ _ (comparison-field d _ (value-term n d)) (bracket-field d _ (value-term n d))
+  value-term n (suc d) = tagged-term (suc d) n _ _ (comparison-field d _ (value-term n d)) (bracket-field d _ (value-term n d))
 
   abbrev Shallow : Sum → Type 0
   Shallow e = T (nestedSum Limits.maxBrackets e)
@@ -106,7 +130,14 @@ module _ (s : List ℕ) where
   value-fields : (n : Counts) (left lower : ℕ) → Ensures (Each Shallow) (valueFields s n left lower)
   unfolding valueFields valueField
   value-fields n zero lower = gives tt
-  value-fields n (suc left) lower = then (record { from = λ c. sum-field Limits.maxBrackets _ (value-term _ Limits.maxBrackets) .from (record { position = c .position; numbers = 0; mentions = 0 }) }) (λ e h. then (value-fields n left _) (λ l hl. gives (h, hl)))
+  value-fields n (suc left) lower = then one (λ e h. then (value-fields n left (suc lower)) (λ l hl. gives (h, hl)))
+    where
+      one : Ensures Shallow (valueField s (inValue s n lower))
+      one =
+          record {
+            from = λ c. sum-field Limits.maxBrackets _ (value-term (inValue s n lower) Limits.maxBrackets) .from
+                (record { position = c .position; numbers = 0; mentions = 0 });
+          }
 
   -- ---- Blocks
 
@@ -116,11 +147,12 @@ module _ (s : List ℕ) where
   all-flat : (l : List Term) → Each (Low 0) l → T (allOf (nestedTerm 0) l)
   unfolding allOf
   all-flat [] h = tt
-  all-flat (a ∷ l) h = all (nestedTerm 0 a) _ (h .0) (all-flat l (h .1))
+  all-flat (a ∷ l) h = all (nestedTerm 0 a) (allOf (nestedTerm 0) l) (h .0) (all-flat l (h .1))
 
   block-flat : (n : Counts) (capacities : List ℕ) → Ensures Flat (blockField s (inForce .kinds) n capacities)
   unfolding nestedBlock
-  block-flat n capacities = weaken (λ b h. all-flat _ (h .1)) (block-parsed s n capacities (Low 0) (unfold blockTerm nestedTerm in then (any-number 0 9) (λ tag h. both (eqb tag 9) (then (any-number 1 _) (λ k h. gives tt)) (simple-low 0 _ any-number n tag))) _)
+  block-flat n capacities =
+      weaken (λ b h. all-flat (facts b .terms) (h .1)) (block-parsed s n capacities (Low 0) (block-term n) (inForce .kinds))
 
   -- ---- The model
 
@@ -130,20 +162,24 @@ module _ (s : List ℕ) where
   model-fields : Ensures Low-model (modelFields s inForce)
   unfolding modelFields
   model-fields =
-      then (any-number 1 _) (λ edition he. then (any-number 0 Limits.maxFacilities) (λ facilities hf. then (any-number 0 Limits.maxStorages) (λ storages hs.
+      then (any-number 1 (inForce .editions))
+      (λ edition he. then (any-number 0 Limits.maxFacilities) (λ facilities hf. then (any-number 0 Limits.maxStorages) (λ storages hs.
       then (repeated storages (any-number 1 Limits.maxCapacity)) (λ capacities hc. then (any-number 0 Limits.maxQueues) (λ queues hq.
-      then (any-number 0 Limits.maxValues) (λ values hv. then (value-fields _ values 0) (λ sums hm. then (any-number 0 Limits.maxLists) (λ lists hl.
+      then (any-number 0 Limits.maxValues)
+      (λ values hv. then (value-fields _ values 0) (λ sums hm. then (any-number 0 Limits.maxLists) (λ lists hl.
       then (any-number 1 Limits.maxCounter) (λ counter hn. then (any-number 1 Limits.maxBlocks) (λ blocks hb.
       then (repeated blocks (block-flat _ capacities)) (λ program hp. gives (hm, hp .1))))))))))))
 
   at-end : (code : ℕ) → Refusal code → Ensures Any (atEnd s code)
   unfolding atEnd
-  at-end code h = record { from = λ c. weaken (λ u g. tt) (asked _ code h) .from c }
+  at-end code h = record { from = λ c. weaken (λ u g. tt) (asked (eqb (c .position) (length s)) code h) .from c }
 
   model-of : Ensures Low-model (modelOf inForce s)
   unfolding modelOf
   model-of =
-      then model-fields (λ m h. then (at-end 6 (omega arith, omega arith)) (λ u g. then (asked _ 7 (omega arith, omega arith)) (λ u f. gives h)))
+      then model-fields
+      (λ m h. then (at-end 6 (omega arith, omega arith))
+      (λ u g. then (asked (wellFormed m) 7 (omega arith, omega arith)) (λ u f. gives h)))
 
 -- ---- The answer
 
@@ -158,22 +194,25 @@ with-tape s m h (refused n) = tt
 
 with-model : (s tape : List ℕ) (r : Parsed BlockModel) → Gives (Low-model s) r → Verdict s (withModel tape r)
 unfolding withModel
-with-model s tape (parsed m c) h = with-tape s m h _
+with-model s tape (parsed m c) h = with-tape s m h (tapeOf (m .rules) tape (m .lists) beginning)
 with-model s tape (refused n) h = tt
 
 verdict : (model tape : List ℕ) (work report : ℕ) → Verdict model (validate inForce model tape work report)
 unfolding validate
 verdict model tape work report =
-    cond-cases (Verdict model) (leb Limits.workNumbers work) _ _
+    cond-cases (Verdict model) (leb Limits.workNumbers work)
+    (cond (leb Limits.reportRoom report) (withModel tape (modelOf inForce model beginning)) (reject 2)) (reject 1)
     (λ e.
-    cond-cases (Verdict model) (leb Limits.reportRoom report) _ _
-    (λ e. with-model model tape _ (model-of model .from beginning)) (λ e. tt))
+    cond-cases (Verdict model) (leb Limits.reportRoom report) (withModel tape (modelOf inForce model beginning)) (reject 2)
+    (λ e. with-model model tape (modelOf inForce model beginning) (model-of model .from beginning)) (λ e. tt))
     (λ e. tt)
 
-pub nested-from : (model tape : List ℕ) (work report : ℕ) {m : BlockModel} {t : List (List ℕ)} → validate inForce model tape work report ≡ accept m t → Nested m
+-- an accepted model has brackets at most four deep, which evaluation relies on
+pub nested-from : (model tape : List ℕ) (work report : ℕ) {m : BlockModel} {t : List (List ℕ)}
+    → validate inForce model tape work report ≡ accept m t → Nested m
 nested-from model tape work report {m} e =
-    let low = rw e at (verdict model tape work report) in
+    let low : Low-model model m = subst (Verdict model) e (verdict model tape work report) in
     record {
-      blocks = λ b. each-getD _ (m .blocks) b _ (low .1) (unfold nestedBlock facts allOf in tt);
-      values = λ k. each-getD _ (m .values) k nothing (low .0) (unfold nestedTerm in tt);
+      blocks = λ b. each-getD (Flat model) (m .blocks) b (terminate 0) (low .1) (unfold nestedBlock facts allOf in tt);
+      values = λ k. each-getD (Shallow model) (m .values) k nothing (low .0) (unfold nestedTerm in tt);
     }

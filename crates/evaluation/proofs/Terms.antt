@@ -40,7 +40,7 @@ module _ {w : View} {tables tally : List ℕ} {clock : ℕ} (s : Sees w tables t
 
   minus-worth : (n : ℕ) → n ≤ maxConstant → simpleTerm tables tally clock p 1 n ≡ negℤ (pos n)
   unfolding simpleTerm
-  minus-worth n h = cc (small-is n (omega arith))
+  minus-worth n h = ap negℤ (small-is n (omega arith))
 
   parameter-worth : (k : ℕ) → simpleTerm tables tally clock p 2 k ≡ getD (parametersOf p) k (pos 0)
   unfolding simpleTerm
@@ -56,19 +56,19 @@ module _ {w : View} {tables tally : List ℕ} {clock : ℕ} (s : Sees w tables t
 
   content-worth : (q : ℕ) → simpleTerm tables tally clock p 5 (q - 1) ≡ pos (queueAt w q .content)
   unfolding simpleTerm queueAt
-  content-worth q = sees-content s _
+  content-worth q = sees-content s (q - 1)
 
   in-use-worth : (v : ℕ) → simpleTerm tables tally clock p 6 (v - 1) ≡ pos (serverAt w v .inUse)
   unfolding simpleTerm serverAt
-  in-use-worth v = sees-in-use s _
+  in-use-worth v = sees-in-use s (v - 1)
 
   free-worth : (v : ℕ) → simpleTerm tables tally clock p 7 (v - 1) ≡ pos (serverAt w v .capacity - serverAt w v .inUse)
   unfolding simpleTerm serverAt
-  free-worth v = sees-free s _
+  free-worth v = sees-free s (v - 1)
 
   facility-worth : (v : ℕ) → simpleTerm tables tally clock p 8 (v - 1) ≡ oneIf (ltb 0 (serverAt w v .inUse))
   unfolding simpleTerm serverAt
-  facility-worth v = sees-facility s _
+  facility-worth v = sees-facility s (v - 1)
 
 -- ---- Terms and sums: where their numbers stand, they are worth what the machine says
 
@@ -78,7 +78,7 @@ added-is a b = refl
 
 joined-plus : (a b : ℤ) → wrap (a +ℤ b) ≡ joined 0 a b
 unfolding joined
-joined-plus a b = added-is a b
+joined-plus a b = refl
 
 joined-minus : (a b : ℤ) → wrap (a -ℤ b) ≡ joined 1 a b
 unfolding joined
@@ -92,21 +92,23 @@ module _ (tables : List ℕ) (read : ℕ → Worth) (at : ℕ) where
   unfolding judged
   comparison-found r a b h x y ea eb =
       let end = at + 1 + length a + length b in
-      sym (comparison-step tables read at (relationNumber r) (at-first tables at (relationNumber r) _ h .found)
-      _ (sym ea) _ refl _ (sym eb)
-      _ (cc (related-by r x y)))
+      sym (comparison-step tables read at (relationNumber r) (at-first tables at (relationNumber r) (a ++ b) h .found)
+      (worthAt x (at + 1 + length a)) (sym ea) (at + 1 + length a) refl (worthAt y end) (sym eb)
+      (worthAt (oneIf (related r x y)) end) (ap (λ (c : Bool). worthAt (oneIf c) end) (sym (related-by r x y))))
 
   -- a sum, from its first term and the rest
   terms-found : (sign count : ℕ) (a b : List ℕ) → At tables at (sign ∷ (a ++ b)) → (so-far x z : ℤ) → z ≡ joined sign so-far x → (all : ℤ) →
-      read (at + 1) ≡ worthAt x (at + 1 + length a) → sumFrom tables read count z (at + 1 + length a) ≡ worthAt all (at + 1 + length a + length b) →
+      read (at + 1) ≡ worthAt x (at + 1 + length a)
+      → sumFrom tables read count z (at + 1 + length a) ≡ worthAt all (at + 1 + length a + length b) →
       sumFrom tables read (suc count) so-far at ≡ worthAt all (at + suc (length (a ++ b)))
   terms-found sign count a b h so-far x z ez all ea eb =
-      let f = at-first tables at sign _ h in
+      let f = at-first tables at sign (a ++ b) h in
       let one : suc count - 1 ≡ count = omega arith in
+      let end : at + 1 + length a + length b ≡ at + suc (length (a ++ b)) = simp length-append (omega arith) in
       sym (sum-step tables read at sign (f .found) (suc count) (λ e. omega arith) (f .inside) so-far
       (worthAt x (at + 1 + length a)) (sym ea) so-far x z refl refl ez (at + 1 + length a) refl (worthAt all (at + 1 + length a + length b))
       (sym eb ∙ ap (λ (n : ℕ). sumFrom tables read n z (at + 1 + length a)) (sym one)))
-      ∙ ap (worthAt all) (simp length-append (omega arith))
+      ∙ ap (worthAt all) end
 
 module _ {w : View} {tables tally : List ℕ} {clock : ℕ} (s : Sees w tables tally clock) (p : List ℕ) (lower : List ℤ) (mention : ℕ → ℤ)
     (agrees : (k : ℕ) → mention k ≡ getD lower k (pos 0)) where
@@ -114,48 +116,60 @@ module _ {w : View} {tables tally : List ℕ} {clock : ℕ} (s : Sees w tables t
   simple : (depth at : ℕ) (tag n : ℕ) (z : ℤ) → At tables at (tag ∷ n ∷ []) → tag < 9 → simpleTerm tables tally clock p tag n ≡ z →
       termFrom tables (simpleTerm tables tally clock p) mention depth at ≡ worthAt z (at + 2)
   simple depth at tag n z h l e =
-      let f = at-first tables at tag _ h in
-      let g = at-first tables _ n [] (f .after) in
-      cc (term-simple tables (simpleTerm tables tally clock p) mention at (f .inside) tag n (f .found) (g .found) depth l, e)
+      let f = at-first tables at tag (n ∷ []) h in
+      let g = at-first tables (at + 1) n [] (f .after) in
+      term-simple tables (simpleTerm tables tally clock p) mention at (f .inside) tag n (f .found) (g .found) depth l
+      ∙ ap (λ (y : ℤ). worthAt y (at + 2)) e
 
   mentioned : (depth at k : ℕ) → At tables at (9 ∷ k ∷ []) →
       termFrom tables (simpleTerm tables tally clock p) mention depth at ≡ worthAt (getD lower k (pos 0)) (at + 2)
   mentioned depth at k h =
-      let f = at-first tables at 9 _ h in
-      let g = at-first tables _ k [] (f .after) in
-      cc (term-mention tables (simpleTerm tables tally clock p) mention at (f .inside) 9 k (f .found) (g .found) depth refl, agrees k)
+      let f = at-first tables at 9 (k ∷ []) h in
+      let g = at-first tables (at + 1) k [] (f .after) in
+      term-mention tables (simpleTerm tables tally clock p) mention at (f .inside) 9 k (f .found) (g .found) depth refl
+      ∙ ap (λ (y : ℤ). worthAt y (at + 2)) (agrees k)
 
   compared : (depth at : ℕ) (r : Relation) (a b : List ℕ) → At tables at (10 ∷ relationNumber r ∷ (a ++ b)) → T (ltb 0 depth) → (x y : ℤ) →
       termFrom tables (simpleTerm tables tally clock p) mention (depth - 1) (at + 1 + 1) ≡ worthAt x (at + 1 + 1 + length a) →
-      termFrom tables (simpleTerm tables tally clock p) mention (depth - 1) (at + 1 + 1 + length a) ≡ worthAt y (at + 1 + 1 + length a + length b) →
-      termFrom tables (simpleTerm tables tally clock p) mention depth at ≡ worthAt (oneIf (related r x y)) (at + suc (suc (length (a ++ b))))
+      termFrom tables (simpleTerm tables tally clock p) mention (depth - 1) (at + 1 + 1 + length a)
+      ≡ worthAt y (at + 1 + 1 + length a + length b) →
+      termFrom tables (simpleTerm tables tally clock p) mention depth at ≡ worthAt (oneIf (related r x y))
+      (at + suc (suc (length (a ++ b))))
   compared depth at r a b h deep x y ea eb =
-      let f = at-first tables at 10 _ h in
-      let g = at-first tables _ _ _ (f .after) in
-      let l = ltb→lt 0 depth deep in
-      term-comparison tables (simpleTerm tables tally clock p) mention at (f .inside) 10 (relationNumber r) (f .found) (g .found) depth (λ e. omega arith) refl
+      let f = at-first tables at 10 (relationNumber r ∷ (a ++ b)) h in
+      let g = at-first tables (at + 1) (relationNumber r) (a ++ b) (f .after) in
+      let l : 0 < depth = ltb→lt 0 depth deep in
+      let end : at + 1 + 1 + length a + length b ≡ at + suc (suc (length (a ++ b))) = simp length-append (omega arith) in
+      term-comparison tables (simpleTerm tables tally clock p) mention at (f .inside) 10 (relationNumber r) (f .found) (g .found) depth
+      (λ e. omega arith) refl
       ∙ comparison-found tables (termFrom tables (simpleTerm tables tally clock p) mention (depth - 1)) (at + 1) r a b (f .after) x y ea eb
-      ∙ ap (worthAt (oneIf (related r x y))) (simp length-append (omega arith))
+      ∙ ap (worthAt (oneIf (related r x y))) end
 
   bracketed : (depth at n : ℕ) (a : List ℕ) → At tables at (11 ∷ n ∷ a) → T (ltb 0 depth) → (x : ℤ) →
-      sumFrom tables (termFrom tables (simpleTerm tables tally clock p) mention (depth - 1)) n (pos 0) (at + 1 + 1) ≡ worthAt x (at + 1 + 1 + length a) →
+      sumFrom tables (termFrom tables (simpleTerm tables tally clock p) mention (depth - 1)) n (pos 0) (at + 1 + 1)
+      ≡ worthAt x (at + 1 + 1 + length a) →
       termFrom tables (simpleTerm tables tally clock p) mention depth at ≡ worthAt x (at + suc (suc (length a)))
   bracketed depth at n a h deep x ea =
-      let f = at-first tables at 11 _ h in
-      let g = at-first tables _ n a (f .after) in
-      let l = ltb→lt 0 depth deep in
+      let f = at-first tables at 11 (n ∷ a) h in
+      let g = at-first tables (at + 1) n a (f .after) in
+      let l : 0 < depth = ltb→lt 0 depth deep in
       let next : at + 2 ≡ at + 1 + 1 = omega arith in
+      let end : at + 1 + 1 + length a ≡ at + suc (suc (length a)) = omega arith in
       term-bracket tables (simpleTerm tables tally clock p) mention at (f .inside) 11 n (f .found) (g .found) depth
       (λ e. omega arith) (lit≤ tt) (λ e. omega arith) (λ e. omega arith)
-      ∙ rw next (ea ∙ ap (worthAt x) (omega arith))
+      ∙ rw next (ea ∙ ap (worthAt x) end)
 
   mutual
     unfolding term terms termNumbers smallTerm nestedTerm
 
+    -- a term that stands in the tables is worth what the machine's term is, and ends behind its numbers
     pub term-found : (t : Term) (depth at : ℕ) → At tables at (termNumbers t) → T (smallTerm t) → T (nestedTerm depth t) →
-        termFrom tables (simpleTerm tables tally clock p) mention depth at ≡ worthAt (term w (parametersOf p) lower t) (at + length (termNumbers t))
-    term-found (constant n) depth at h small nested = simple depth at 0 n (pos n) h (lit< tt) (constant-worth s p n (leb→le n maxConstant small))
-    term-found (minusConstant n) depth at h small nested = simple depth at 1 n (negℤ (pos n)) h (lit< tt) (minus-worth s p n (leb→le n maxConstant small))
+        termFrom tables (simpleTerm tables tally clock p) mention depth at ≡ worthAt (term w (parametersOf p) lower t)
+        (at + length (termNumbers t))
+    term-found (constant n) depth at h small nested =
+        simple depth at 0 n (pos n) h (lit< tt) (constant-worth s p n (leb→le n maxConstant small))
+    term-found (minusConstant n) depth at h small nested =
+        simple depth at 1 n (negℤ (pos n)) h (lit< tt) (minus-worth s p n (leb→le n maxConstant small))
     term-found (parameter k) depth at h small nested = simple depth at 2 (k - 1) _ h (lit< tt) (parameter-worth s p (k - 1))
     term-found clockTerm depth at h small nested = simple depth at 3 0 _ h (lit< tt) (clock-worth s p)
     term-found (entriesOf b) depth at h small nested = simple depth at 4 (b - 1) _ h (lit< tt) (entries-worth s p (b - 1))
@@ -179,14 +193,17 @@ module _ {w : View} {tables tally : List ℕ} {clock : ℕ} (s : Sees w tables t
         bracketed depth at (terms e) (signedTerms e) h (and-left (ltb 0 depth) (nestedSum (depth - 1) e) nested) _
         (sum-found e (depth - 1) (pos 0) (at + 1 + 1) inner small (and-right (ltb 0 depth) (nestedSum (depth - 1) e) nested))
 
+    -- and so is a sum
     pub sum-found : (e : Sum) (depth : ℕ) (z : ℤ) (at : ℕ) → At tables at (signedTerms e) → T (smallSum e) → T (nestedSum depth e) →
         sumFrom tables (termFrom tables (simpleTerm tables tally clock p) mention depth) (terms e) z at
         ≡ worthAt (sum w (parametersOf p) lower e z) (at + length (signedTerms e))
     sum-found nothing depth z at h small nested = sum-none tables _ z at 0 refl ∙ ap (worthAt z) (omega arith)
     sum-found (plus t e) depth z at h small nested =
         let rest = at-first tables at 0 (termNumbers t ++ signedTerms e) h .after in
-        terms-found tables (termFrom tables (simpleTerm tables tally clock p) mention depth) at 0 (terms e) (termNumbers t) (signedTerms e) h
-        z (term w (parametersOf p) lower t) (wrap (z +ℤ term w (parametersOf p) lower t)) (joined-plus z (term w (parametersOf p) lower t)) _
+        terms-found tables (termFrom tables (simpleTerm tables tally clock p) mention depth) at 0 (terms e) (termNumbers t)
+        (signedTerms e) h
+        z (term w (parametersOf p) lower t) (wrap (z +ℤ term w (parametersOf p) lower t))
+        (joined-plus z (term w (parametersOf p) lower t)) _
         (term-found t depth (at + 1) (at-front tables (at + 1) (termNumbers t) (signedTerms e) rest)
         (and-left (smallTerm t) (smallSum e) small) (and-left (nestedTerm depth t) (nestedSum depth e) nested))
         (sum-found e depth (wrap (z +ℤ term w (parametersOf p) lower t)) (at + 1 + length (termNumbers t))
@@ -194,8 +211,10 @@ module _ {w : View} {tables tally : List ℕ} {clock : ℕ} (s : Sees w tables t
         (and-right (smallTerm t) (smallSum e) small) (and-right (nestedTerm depth t) (nestedSum depth e) nested))
     sum-found (minus t e) depth z at h small nested =
         let rest = at-first tables at 1 (termNumbers t ++ signedTerms e) h .after in
-        terms-found tables (termFrom tables (simpleTerm tables tally clock p) mention depth) at 1 (terms e) (termNumbers t) (signedTerms e) h
-        z (term w (parametersOf p) lower t) (wrap (z -ℤ term w (parametersOf p) lower t)) (joined-minus z (term w (parametersOf p) lower t)) _
+        terms-found tables (termFrom tables (simpleTerm tables tally clock p) mention depth) at 1 (terms e) (termNumbers t)
+        (signedTerms e) h
+        z (term w (parametersOf p) lower t) (wrap (z -ℤ term w (parametersOf p) lower t))
+        (joined-minus z (term w (parametersOf p) lower t)) _
         (term-found t depth (at + 1) (at-front tables (at + 1) (termNumbers t) (signedTerms e) rest)
         (and-left (smallTerm t) (smallSum e) small) (and-left (nestedTerm depth t) (nestedSum depth e) nested))
         (sum-found e depth (wrap (z -ℤ term w (parametersOf p) lower t)) (at + 1 + length (termNumbers t))

@@ -115,7 +115,9 @@ fn comparison(
     at: u32,
 ) -> u64
     requires { ⌜ at ≤ tablesSize ⌝ }
-    ensures { λ r. ⌜ unpacked r ≡ comparisonFrom (now (tables .entry)) (termOf (now (tables .entry)) (now (tally .entry)) clock (now (parameters .entry)) lower depth) at ⌝ }
+    ensures { λ r. ⌜
+        unpacked r ≡ comparisonFrom (now (tables .entry))
+        (termOf (now (tables .entry)) (now (tally .entry)) clock (now (parameters .entry)) lower depth) at ⌝ }
 {
     let left = term(tables, tally, clock, parameters, lower, depth, at + 1);
     let right = term(
@@ -142,7 +144,9 @@ fn sum(
     so_far: i32,
     at: u32,
 ) -> u64
-    ensures { λ r. ⌜ unpacked r ≡ sumFrom (now (tables .entry)) (termOf (now (tables .entry)) (now (tally .entry)) clock (now (parameters .entry)) lower depth) left «so_far» at ⌝ }
+    ensures { λ r. ⌜
+        unpacked r ≡ sumFrom (now (tables .entry))
+        (termOf (now (tables .entry)) (now (tally .entry)) clock (now (parameters .entry)) lower depth) left «so_far» at ⌝ }
 {
     if left == 0 {
         return packed(so_far, at);
@@ -176,7 +180,9 @@ fn value(
     lower: usize,
     k: u32,
 ) -> i32
-    ensures { λ r. ⌜ r ≡ valueBelow (now (tables .entry)) (simpleTerm (now (tables .entry)) (now (tally .entry)) clock (now (parameters .entry))) lower k ⌝ }
+    ensures { λ r. ⌜
+        r ≡ valueBelow (now (tables .entry))
+        (simpleTerm (now (tables .entry)) (now (tally .entry)) clock (now (parameters .entry))) lower k ⌝ }
 {
     let k = k as usize;
     if lower <= k {

@@ -73,13 +73,50 @@ value-below t = and 3 value-kinds.ps (falls 3 value-kinds.ps _<_ μ-value t) val
 
 -- what each asks and learns of those that it calls
 abbrev comparison-claims : ℕ → comparison-lts.Claims
-comparison-claims t = (term-below t, term.Post, next-of-reads.Asked, next-of-reads.Learnt, number-at-reads.Asked, number-at-reads.Learnt, judge-reads.Asked, judge-reads.Learnt)
+comparison-claims t = (
+  term-below t,
+  term.Post,
+  next-of-reads.Asked,
+  next-of-reads.Learnt,
+  number-at-reads.Asked,
+  number-at-reads.Learnt,
+  judge-reads.Asked,
+  judge-reads.Learnt,
+)
 
 abbrev sum-claims : ℕ → sum-lts.Claims
-sum-claims t = (packed-reads.Asked, packed-reads.Learnt, number-at-reads.Asked, number-at-reads.Learnt, term-below t, term.Post, worth-of-reads.Asked, worth-of-reads.Learnt, join-reads.Asked, join-reads.Learnt, next-of-reads.Asked, next-of-reads.Learnt, sum-below t, sum.Post)
+sum-claims t = (
+  packed-reads.Asked,
+  packed-reads.Learnt,
+  number-at-reads.Asked,
+  number-at-reads.Learnt,
+  term-below t,
+  term.Post,
+  worth-of-reads.Asked,
+  worth-of-reads.Learnt,
+  join-reads.Asked,
+  join-reads.Learnt,
+  next-of-reads.Asked,
+  next-of-reads.Learnt,
+  sum-below t,
+  sum.Post,
+)
 
 abbrev term-claims : ℕ → term-lts.Claims
-term-claims t = (number-at-reads.Asked, number-at-reads.Learnt, packed-reads.Asked, packed-reads.Learnt, simple-term-reads.Asked, simple-term-reads.Learnt, value-below t, value.Post, comparison-below t, comparison.Post, sum-below t, sum.Post)
+term-claims t = (
+  number-at-reads.Asked,
+  number-at-reads.Learnt,
+  packed-reads.Asked,
+  packed-reads.Learnt,
+  simple-term-reads.Asked,
+  simple-term-reads.Learnt,
+  value-below t,
+  value.Post,
+  comparison-below t,
+  comparison.Post,
+  sum-below t,
+  sum.Post,
+)
 
 abbrev value-claims : ℕ → value-lts.Claims
 value-claims t = (number-reads.Asked, number-reads.Learnt, sum-below t, sum.Post, worth-of-reads.Asked, worth-of-reads.Learnt)
@@ -106,7 +143,8 @@ comparison-judge-requires t c κs = search needs
 
 comparison-returns : (t : ℕ) → comparison-lts.Need-returns (comparison-claims t) (comparison-at t) comparison.Post
 comparison-returns t c =
-    comparison-step _ _ _ _ (c .before .number-at .ensures .0) _ (c .before .before .before .before .term .ensures) _ (c .before .before .before .next-of .ensures) _ (c .before .before .term2 .ensures) _ (c .judge .ensures)
+    comparison-step _ _ _ _ (c .before .number-at .ensures .0) _ (c .before .before .before .before .term .ensures) _
+    (c .before .before .before .next-of .ensures) _ (c .before .before .term2 .ensures) _ (c .judge .ensures)
 
 -- ---- sum
 
@@ -150,8 +188,12 @@ sum-sum-requires t c κs = search needs
 
 sum-returns-3 : (t : ℕ) → sum-lts.Need-returns-3 (sum-claims t) (sum-at t) sum.Post
 sum-returns-3 t c =
-    sum-step _ _ _ _ (c .before .before .before .before .before .before .number-at .ensures .0) _ (c .before .before .before .before .before .before .before .if1 .left) (omega arith) _ _ (c .before .before .before .before .term .ensures) _ _ _
-    (toZ-ofZ (c .before .before .before .before .before .before .before .before .fits .so-far)) (back _ (c .before .before .before .worth-of .ok) ∙ c .before .before .before .worth-of .ensures) (back _ (c .before .before .join .ok) ∙ c .before .before .join .ensures) _
+    sum-step _ _ _ _ (c .before .before .before .before .before .before .number-at .ensures .0) _
+    (c .before .before .before .before .before .before .before .if1 .left) (omega arith) _ _
+    (c .before .before .before .before .term .ensures) _ _ _
+    (toZ-ofZ (c .before .before .before .before .before .before .before .before .fits .so-far))
+    (back _ (c .before .before .before .worth-of .ok) ∙ c .before .before .before .worth-of .ensures)
+    (back _ (c .before .before .join .ok) ∙ c .before .before .join .ensures) _
     (c .before .next-of .ensures) _ (c .sum .ensures)
 
 term-number-at-requires : (t : ℕ) → term-lts.Need-number-at-requires (term-claims t) (term-at t) term.Post
@@ -185,7 +227,8 @@ term-returns-2 : (t : ℕ) → term-lts.Need-returns-2 (term-claims t) (term-at 
 term-returns-2 t c =
     c .packed2 .ensures
     ∙ rw (back _ (c .before .simple-term .ok) ∙ c .before .simple-term .ensures)
-    (sym (term-simple _ _ _ _ (omega arith) _ _ (c .before .before .before .before .before .number-at .ensures .0) (c .before .before .before .number-at2 .ensures .0) _ (c .before .before .if2 .taken)))
+    (sym (term-simple _ _ _ _ (omega arith) _ _ (c .before .before .before .before .before .number-at .ensures .0)
+    (c .before .before .before .number-at2 .ensures .0) _ (c .before .before .if2 .taken)))
 
 term-value-requires : (t : ℕ) → term-lts.Need-value-requires (term-claims t) (term-at t) term.Post
 term-value-requires t c κs = search needs
@@ -200,7 +243,8 @@ term-returns-3 : (t : ℕ) → term-lts.Need-returns-3 (term-claims t) (term-at 
 term-returns-3 t c =
     c .packed3 .ensures
     ∙ rw (back _ (c .before .value .ok) ∙ c .before .value .ensures)
-    (sym (term-mention _ _ _ _ (omega arith) _ _ (c .before .before .before .before .before .before .number-at .ensures .0) (c .before .before .before .before .number-at2 .ensures .0) _ (c .before .before .if3 .taken)))
+    (sym (term-mention _ _ _ _ (omega arith) _ _ (c .before .before .before .before .before .before .number-at .ensures .0)
+    (c .before .before .before .before .number-at2 .ensures .0) _ (c .before .before .if3 .taken)))
 
 term-add-packed-3 : (t : ℕ) → term-lts.Need-add-packed-3 (term-claims t) (term-at t) term.Post
 term-add-packed-3 t c = search needs
@@ -211,7 +255,9 @@ term-packed-requires-4 t c κs = search needs
 term-returns-4 : (t : ℕ) → term-lts.Need-returns-4 (term-claims t) (term-at t) term.Post
 term-returns-4 t c =
     c .packed4 .ensures
-    ∙ sym (term-deep _ _ _ _ (omega arith) _ _ (c .before .before .before .before .before .before .number-at .ensures .0) (c .before .before .before .before .number-at2 .ensures .0) _ (c .before .if4 .taken) (c .before .before .before .if2 .left) (c .before .before .if3 .left))
+    ∙ sym (term-deep _ _ _ _ (omega arith) _ _ (c .before .before .before .before .before .before .number-at .ensures .0)
+    (c .before .before .before .before .number-at2 .ensures .0) _ (c .before .if4 .taken) (c .before .before .before .if2 .left)
+    (c .before .before .if3 .left))
 
 term-sub-comparison : (t : ℕ) → term-lts.Need-sub-comparison (term-claims t) (term-at t) term.Post
 term-sub-comparison t c = search needs
@@ -225,7 +271,8 @@ term-comparison-requires t c κs = search needs
 term-returns-5 : (t : ℕ) → term-lts.Need-returns-5 (term-claims t) (term-at t) term.Post
 term-returns-5 t c =
     c .comparison .ensures
-    ∙ sym (term-comparison _ _ _ _ (omega arith) _ _ (c .before .before .before .before .before .before .before .number-at .ensures .0) (c .before .before .before .before .before .number-at2 .ensures .0) _ (c .before .before .if4 .left) (c .before .if5 .taken))
+    ∙ sym (term-comparison _ _ _ _ (omega arith) _ _ (c .before .before .before .before .before .before .before .number-at .ensures .0)
+    (c .before .before .before .before .before .number-at2 .ensures .0) _ (c .before .before .if4 .left) (c .before .if5 .taken))
 
 term-sub-sum : (t : ℕ) → term-lts.Need-sub-sum (term-claims t) (term-at t) term.Post
 term-sub-sum t c = search needs
@@ -239,7 +286,9 @@ term-sum-requires t c κs = search needs
 term-returns-6 : (t : ℕ) → term-lts.Need-returns-6 (term-claims t) (term-at t) term.Post
 term-returns-6 t c =
     c .sum .ensures
-    ∙ sym (term-bracket _ _ _ _ (omega arith) _ _ (c .before .before .before .before .before .before .before .number-at .ensures .0) (c .before .before .before .before .before .number-at2 .ensures .0) _ (c .before .before .if4 .left) (c .before .before .before .before .if2 .left) (c .before .before .before .if3 .left) (c .before .if5 .left))
+    ∙ sym (term-bracket _ _ _ _ (omega arith) _ _ (c .before .before .before .before .before .before .before .number-at .ensures .0)
+    (c .before .before .before .before .before .number-at2 .ensures .0) _ (c .before .before .if4 .left)
+    (c .before .before .before .before .if2 .left) (c .before .before .before .if3 .left) (c .before .if5 .left))
 
 -- ---- value
 
@@ -276,7 +325,12 @@ value-worth-of-requires t c κs = search needs
 
 value-returns-3 : (t : ℕ) → value-lts.Need-returns-3 (value-claims t) (value-at t) value.Post
 value-returns-3 t c =
-    rw (back _ (c .worth-of .ok), c .worth-of .ensures, value-step _ _ _ _ (c .before .before .before .before .before .if1 .left) _ (c .before .before .before .number .ensures) _ (c .before .sum .ensures))
+    rw (
+      back _ (c .worth-of .ok),
+      c .worth-of .ensures,
+      value-step _ _ _ _ (c .before .before .before .before .before .if1 .left) _
+          (c .before .before .before .number .ensures) _ (c .before .sum .ensures),
+    )
 
 pub +comparison+sum+term+value-spec : {M : Type 1} → statement M
 +comparison+sum+term+value-spec =
@@ -285,7 +339,13 @@ pub +comparison+sum+term+value-spec : {M : Type 1} → statement M
     μ-sum
     μ-term
     μ-value
-    (λ t. comparison-lts.spec _ _ comparison.Post (comparison-add-term t) (comparison-term-requires t) _ (comparison-term-requires-2 t) _ _ (comparison-returns t))
-    (λ t. sum-lts.spec _ _ sum.Post _ (sum-returns t) _ _ (sum-returns-2 t) (sum-add-term t) (sum-term-requires t) _ _ (sum-sub-sum t) _ (sum-sum-requires t) (sum-returns-3 t))
-    (λ t. term-lts.spec _ _ term.Post _ _ (term-returns t) (term-add-number-at t) _ _ (term-add-packed t) _ (term-returns-2 t) (term-value-requires t) (term-add-packed-2 t) _ (term-returns-3 t) (term-add-packed-3 t) _ (term-returns-4 t) (term-sub-comparison t) (term-add-comparison t) (term-comparison-requires t) (term-returns-5 t) (term-sub-sum t) (term-add-sum t) (term-sum-requires t) (term-returns-6 t))
-    (λ t. value-lts.spec _ _ value.Post (value-returns t) (value-mul-at t) (value-add-at t) _ (value-add-if2 t) (value-returns-2 t) (value-add-sum t) (value-cast-sum t) (value-sum-requires t) _ (value-returns-3 t))
+    (λ t. comparison-lts.spec _ _ comparison.Post (comparison-add-term t) (comparison-term-requires t) _ (comparison-term-requires-2 t) _ _
+    (comparison-returns t))
+    (λ t. sum-lts.spec _ _ sum.Post _ (sum-returns t) _ _ (sum-returns-2 t) (sum-add-term t) (sum-term-requires t) _ _ (sum-sub-sum t) _
+    (sum-sum-requires t) (sum-returns-3 t))
+    (λ t. term-lts.spec _ _ term.Post _ _ (term-returns t) (term-add-number-at t) _ _ (term-add-packed t) _ (term-returns-2 t)
+    (term-value-requires t) (term-add-packed-2 t) _ (term-returns-3 t) (term-add-packed-3 t) _ (term-returns-4 t)
+    (term-sub-comparison t) (term-add-comparison t) (term-comparison-requires t) (term-returns-5 t) (term-sub-sum t) (term-add-sum t)
+    (term-sum-requires t) (term-returns-6 t))
+    (λ t. value-lts.spec _ _ value.Post (value-returns t) (value-mul-at t) (value-add-at t) _ (value-add-if2 t) (value-returns-2 t)
+    (value-add-sum t) (value-cast-sum t) (value-sum-requires t) _ (value-returns-3 t))

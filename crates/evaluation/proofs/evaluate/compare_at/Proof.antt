@@ -8,9 +8,10 @@ use our.evaluate.compare_at as f
 returns : f.Tie.Need-returns
 unfolding compareAt
 returns c =
-    let b = c .before .before .before in
-    let left = back _ (b .before .term-at .ok) ∙ b .before .term-at .ensures in
-    c .related .ensures ∙ rw (left, (back _ (b .term-at2 .ok) ∙ b .term-at2 .ensures), c .before .number .ensures)
+    let at-term-at2 : f.Tie.After-term-at2 = search in
+    let at-term-at : f.Tie.After-term-at = search in
+    let left = back _ (at-term-at .term-at .ok) ∙ at-term-at .term-at .ensures in
+    c .related .ensures ∙ rw (left, (back _ (at-term-at2 .term-at2 .ok) ∙ at-term-at2 .term-at2 .ensures), c .before .number .ensures)
 
 pub compare-at-spec : {M : Type 1} → f.Statement.statement M
 compare-at-spec =

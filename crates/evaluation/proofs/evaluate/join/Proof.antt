@@ -6,17 +6,19 @@ use Rattle.evaluation.proofs as our
 use our.Signs.{back}
 use our.evaluate.join as f
 
-returns : f.Tie.Need-returns
+returns-sign-is-0 : f.Tie.Need-returns
 unfolding joined
-returns c = let entry = c .before .before in
+returns-sign-is-0 c =
+    let start : f.Tie.Start = search in
     rw (c .before .if1 .taken)
-    (back _ (c .add .ok) ∙ c .add .ensures ∙ rw (toZ-ofZ (entry .fits .a), toZ-ofZ (entry .fits .b)))
+    (back _ (c .add .ok) ∙ c .add .ensures ∙ rw (toZ-ofZ (start .fits .a), toZ-ofZ (start .fits .b)))
 
-returns-2 : f.Tie.Need-returns-2
+returns-else : f.Tie.Need-returns-2
 unfolding joined
-returns-2 c = let entry = c .before .before in
+returns-else c =
+    let start : f.Tie.Start = search in
     rw (ne-eqb _ _ (c .before .if1 .left))
-    (back _ (c .subtract .ok) ∙ c .subtract .ensures ∙ rw (toZ-ofZ (entry .fits .a), toZ-ofZ (entry .fits .b)))
+    (back _ (c .subtract .ok) ∙ c .subtract .ensures ∙ rw (toZ-ofZ (start .fits .a), toZ-ofZ (start .fits .b)))
 
 pub join-spec : {M : Type 1} → f.Statement.statement M
-join-spec = f.Tie.close (f.Tie.spec (search needs) (search needs) returns returns-2)
+join-spec = f.Tie.close (f.Tie.spec (search needs) (search needs) returns-sign-is-0 returns-else)

@@ -8,10 +8,20 @@ use our.evaluate.judge as f
 returns : f.Tie.Need-returns
 unfolding judged
 returns c =
-    let b = c .before .before in
-    let left = back _ (b .before .before .before .worth-of .ok) ∙ b .before .before .before .worth-of .ensures in
-    let one = back _ (b .one-if .ok) ∙ b .one-if .ensures in
-    c .packed .ensures ∙ rw (one, b .before .related .ensures, left, (back _ (b .before .before .worth-of2 .ok) ∙ b .before .before .worth-of2 .ensures), c .before .next-of .ensures)
+    let at-one-if : f.Tie.After-one-if = search in
+    let at-related : f.Tie.After-related = search in
+    let at-worth-of2 : f.Tie.After-worth-of2 = search in
+    let at-worth-of : f.Tie.After-worth-of = search in
+    let left = back _ (at-worth-of .worth-of .ok) ∙ at-worth-of .worth-of .ensures in
+    let one = back _ (at-one-if .one-if .ok) ∙ at-one-if .one-if .ensures in
+    c .packed .ensures
+    ∙ rw (
+      one,
+      at-related .related .ensures,
+      left,
+      (back _ (at-worth-of2 .worth-of2 .ok) ∙ at-worth-of2 .worth-of2 .ensures),
+      c .before .next-of .ensures,
+    )
 
 pub judge-spec : {M : Type 1} → f.Statement.statement M
 judge-spec =

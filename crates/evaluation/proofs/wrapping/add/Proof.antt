@@ -7,9 +7,15 @@ use our.wrapping.add as f
 
 returns : f.Tie.Need-returns
 returns c =
-    let d = c .before .before in
-    let entry = d .before .before in
-    cc (back _ (c .signed .ok), c .signed .ensures, wrap-add _ _ _ _ (d .before .bits .ensures ∙ ap low32 (toZ-ofZ (entry .fits .a))) (d .bits2 .ensures ∙ ap low32 (toZ-ofZ (entry .fits .b))) _ (c .before .wrapping-add-u32 .ensures))
+    let at-bits2 : f.Tie.After-bits2 = search in
+    let at-bits : f.Tie.After-bits = search in
+    let start : f.Tie.Start = search in
+    cc (
+      back _ (c .signed .ok),
+      c .signed .ensures,
+      wrap-add _ _ _ _ (at-bits .bits .ensures ∙ ap low32 (toZ-ofZ (start .fits .a)))
+          (at-bits2 .bits2 .ensures ∙ ap low32 (toZ-ofZ (start .fits .b))) _ (c .before .wrapping-add-u32 .ensures),
+    )
 
 pub add-spec : {M : Type 1} → f.Statement.statement M
 add-spec =

@@ -4,5 +4,10 @@ use Rattle.evaluation.proofs as our
 use our.Signs.{back}
 use our.wrapping.low_signed as f
 
+returns : f.Tie.Need-returns
+unfolding wrap low32
+returns c =
+    back _ (c .signed .ok) ∙ c .signed .ensures
+
 pub low-signed-spec : {M : Type 1} → f.Statement.statement M
-low-signed-spec = f.Tie.close (f.Tie.spec (search needs) (search needs) (λ c. unfold wrap low32 in back _ (c .signed .ok) ∙ c .signed .ensures))
+low-signed-spec = f.Tie.close (f.Tie.spec (search needs) (search needs) returns)

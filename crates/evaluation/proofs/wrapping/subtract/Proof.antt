@@ -7,9 +7,16 @@ use our.wrapping.subtract as f
 
 returns : f.Tie.Need-returns
 returns c =
-    let d = c .before in
-    let entry = d .before .before .before in
-    cc (back _ (c .signed .ok), c .signed .ensures, wrap-subtract _ _ _ _ (d .before .before .bits .ensures ∙ ap low32 (toZ-ofZ (entry .fits .a))) (d .before .bits2 .ensures ∙ ap low32 (toZ-ofZ (entry .fits .b))) _ (d .wrapping-sub-u32 .ok) (d .wrapping-sub-u32 .ensures))
+    let at-bits2 : f.Tie.After-bits2 = search in
+    let at-bits : f.Tie.After-bits = search in
+    let start : f.Tie.Start = search in
+    cc (
+      back _ (c .signed .ok),
+      c .signed .ensures,
+      wrap-subtract _ _ _ _ (at-bits .bits .ensures ∙ ap low32 (toZ-ofZ (start .fits .a)))
+          (at-bits2 .bits2 .ensures ∙ ap low32 (toZ-ofZ (start .fits .b))) _ (c .before .wrapping-sub-u32 .ok)
+          (c .before .wrapping-sub-u32 .ensures),
+    )
 
 pub subtract-spec : {M : Type 1} → f.Statement.statement M
 subtract-spec =
