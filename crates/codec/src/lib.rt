@@ -82,7 +82,8 @@ pub fn read_number(s: &[u8], at: usize, most: u64) -> Read
 // A number of the report.
 pub fn read_report_number(s: &[u8], at: usize) -> Read
     ensures { λ r. ⌜ numberOf at r ≡ readNumber maxReportNumberBytes maxReportNumber (drop at (now (s .entry))) ⌝ }
-    ensures inside { λ r. ⌜ ((v next : ℕ) → r ≡ Read.Number v next → (v ≤ maxReportNumber) × (at < next) × (next ≤ length (now (s .entry)))) ⌝ }
+    ensures inside { λ r. ⌜
+        ((v next : ℕ) → r ≡ Read.Number v next → (v ≤ maxReportNumber) × (at < next) × (next ≤ length (now (s .entry)))) ⌝ }
 {
     read_shortest(s, at, Model::REPORT_NUMBER_BYTES, Model::MAX_REPORT_NUMBER)
 }
@@ -91,8 +92,11 @@ pub fn read_report_number(s: &[u8], at: usize) -> Read
 // `most`, and the next number that of one out of range: 3 and 4 for the model, 8 and 9 for the
 // tape, 31 and 32 for the trace.
 pub fn read_field(s: &[u8], at: usize, most: u64, lo: u64, hi: u64, code: u8) -> Field
-    ensures { λ r. ⌜ ((numbers mentions : ℕ) → parsedOf numbers mentions r ≡ fieldUpTo most (now (s .entry)) code lo hi (cursorAt at numbers mentions)) ⌝ }
-    ensures inside { λ r. ⌜ ((v next : ℕ) → r ≡ Field.Value v next → (lo ≤ v) × (v ≤ hi) × (at < next) × (next ≤ length (now (s .entry)))) ⌝ }
+    ensures { λ r. ⌜
+        ((numbers mentions : ℕ) → parsedOf numbers mentions r ≡ fieldUpTo most (now (s .entry)) code lo hi (cursorAt at numbers mentions))
+        ⌝ }
+    ensures inside { λ r. ⌜
+        ((v next : ℕ) → r ≡ Field.Value v next → (lo ≤ v) × (v ≤ hi) × (at < next) × (next ≤ length (now (s .entry)))) ⌝ }
 {
     let malformed = code as u32;
     let out_of_range = malformed + 1;

@@ -8,39 +8,47 @@ use our.read_field as f
 enum-told : f.Tie.Need-enum-told
 enum-told c = search needs
 
-returns : f.Tie.Need-returns
+returns-no-number : f.Tie.Need-returns
 unfolding parsedOf
-returns c = (
-  λ numbers mentions. field-unread _ _ _ _ _ _ numbers mentions _ (c .before .before .read-number .ensures .0) (c .enum-told .given .1),
-  λ v next e. absurd (refused-value e),
-)
+returns-no-number c =
+    let at-read-number : f.Tie.After-read-number = search in (
+      λ numbers mentions. field-unread _ _ _ _ _ _ numbers mentions _ (at-read-number .read-number .ensures .0) (c .enum-told .given .1),
+      λ v next e. absurd (refused-value e),
+    )
 
-returns-2 : f.Tie.Need-returns-2
+returns-v-below-lo : f.Tie.Need-returns-2
 unfolding parsedOf
-returns-2 c = let w = c .before .before in (
-  λ numbers mentions.
-      ap refused (add-one _)
-      ∙ field-low _ _ _ _ _ _ numbers mentions _ (w .before .before .read-number .ensures .0) _ _ (w .v .given .1) (c .if1 .taken),
-  λ v next e. absurd (refused-value e),
-)
-
-returns-3 : f.Tie.Need-returns-3
-unfolding parsedOf
-returns-3 c = let w = c .before .before .before in (
-  λ numbers mentions.
-      ap refused (add-one _)
-      ∙ field-high _ _ _ _ _ _ numbers mentions _ (w .before .before .read-number .ensures .0) _ _ (w .v .given .1) (c .before .if1 .left)
-      (c .if2 .taken),
-  λ v next e. absurd (refused-value e),
-)
-
-returns-4 : f.Tie.Need-returns-4
-unfolding parsedOf
-returns-4 c = let w = c .before .before .before in
-    let number = w .before .before .read-number .ensures in
-    let inside = number .1 _ _ (w .v .given .1) in (
+returns-v-below-lo c =
+    let at-v : f.Tie.After-v = search in
+    let at-read-number : f.Tie.After-read-number = search in (
       λ numbers mentions.
-          field-within _ _ _ _ _ _ numbers mentions _ (number .0) _ _ (w .v .given .1) (c .before .if1 .left) (c .if2 .left) (inside .1),
+          ap refused (add-one _)
+          ∙ field-low _ _ _ _ _ _ numbers mentions _ (at-read-number .read-number .ensures .0) _ _ (at-v .v .given .1) (c .if1 .taken),
+      λ v next e. absurd (refused-value e),
+    )
+
+returns-hi-below-v : f.Tie.Need-returns-3
+unfolding parsedOf
+returns-hi-below-v c =
+    let at-v : f.Tie.After-v = search in
+    let at-read-number : f.Tie.After-read-number = search in (
+      λ numbers mentions.
+          ap refused (add-one _)
+          ∙ field-high _ _ _ _ _ _ numbers mentions _ (at-read-number .read-number .ensures .0) _ _ (at-v .v .given .1)
+          (c .before .if1 .left)
+          (c .if2 .taken),
+      λ v next e. absurd (refused-value e),
+    )
+
+returns-last : f.Tie.Need-returns-4
+unfolding parsedOf
+returns-last c =
+    let at-v : f.Tie.After-v = search in
+    let at-read-number : f.Tie.After-read-number = search in
+    let number = at-read-number .read-number .ensures in
+    let inside = number .1 _ _ (at-v .v .given .1) in (
+      λ numbers mentions.
+          field-within _ _ _ _ _ _ numbers mentions _ (number .0) _ _ (at-v .v .given .1) (c .before .if1 .left) (c .if2 .left) (inside .1),
       value-inside _ _ _ _ (c .before .if1 .left) (c .if2 .left) (inside .1) (inside .2),
     )
 
@@ -52,7 +60,7 @@ read-field-spec =
     (search needs)
     (search needs)
     enum-told
-    returns
-    returns-2
-    returns-3
-    returns-4)
+    returns-no-number
+    returns-v-below-lo
+    returns-hi-below-v
+    returns-last)

@@ -14,22 +14,26 @@ abbrev μ-loop : f.Tie.MeasureT-loop
 μ-loop out₀ at v len left₀ above₀ out left above = left
 
 add-out-3 : f.Tie.Need-add-out-3 Inv-loop μ-loop
-add-out-3 c = omega (
-  arith,
-  simp length-set at (c .before .loop .inv .0),
-  c .before .loop .inv .1,
-  numberBytes-positive (c .before .before .args .v),
-  c .before .before .pre,
-)
+add-out-3 c =
+    let start : f.Tie.Start Inv-loop μ-loop = search in
+    omega (
+      arith,
+      simp length-set at (c .before .loop .inv .0),
+      c .before .loop .inv .1,
+      numberBytes-positive (start .args .v),
+      start .pre,
+    )
 
 slice-write-out-2 : f.Tie.Need-slice-write-out-2 Inv-loop μ-loop
-slice-write-out-2 c = omega (
-  arith,
-  simp length-set at (c .before .loop .inv .0),
-  c .before .loop .inv .1,
-  numberBytes-positive (c .before .before .args .v),
-  c .before .before .pre,
-)
+slice-write-out-2 c =
+    let start : f.Tie.Start Inv-loop μ-loop = search in
+    omega (
+      arith,
+      simp length-set at (c .before .loop .inv .0),
+      c .before .loop .inv .1,
+      numberBytes-positive (start .args .v),
+      start .pre,
+    )
 
 loop-again : f.Tie.Need-loop-again Inv-loop μ-loop
 loop-again c = let w = c .before .loop .inv in (
@@ -38,6 +42,11 @@ loop-again c = let w = c .before .loop .inv in (
   store-fewer _ _ (c .loop-test .taken) (w .2),
   store-step _ _ (c .loop-test .taken) (w .2) _ _ ∙ w .3,
 )
+
+returns : f.Tie.Need-returns Inv-loop μ-loop
+returns c =
+    let start : f.Tie.Start Inv-loop μ-loop = search in
+    store-done _ _ _ _ (c .loop-test .left) ∙ c .before .loop .inv .3 ∙ rw (start .pre .0) (store-whole _ _ _)
 
 pub store-number-spec : {M : Type 1} → f.Statement.statement M
 store-number-spec =
@@ -58,4 +67,4 @@ store-number-spec =
     (omega arith)
     loop-again
     (λ c. c .before .loop .inv .0 ∙ simp length-set)
-    (λ c. store-done _ _ _ _ (c .loop-test .left) ∙ c .before .loop .inv .3 ∙ rw (c .before .before .pre .0) (store-whole _ _ _)))
+    returns)

@@ -5,11 +5,12 @@ use Rattle.codec.proofs as our
 use our.Writing.{put-room, put-full}
 use our.write_number as f
 
-returns-3 : f.Tie.Need-returns-3
-returns-3 c =
-    let b = c .before .before .before .before .before .before in
-    let len = b .number-len .ensures in
-    ap₂ written (cc len) (c .before .before .store-number .ensures)
+returns-last : f.Tie.Need-returns-3
+returns-last c =
+    let at-store-number : f.Tie.After-store-number = search in
+    let at-number-len : f.Tie.After-number-len = search in
+    let len = at-number-len .number-len .ensures in
+    ap₂ written (cc len) (at-store-number .store-number .ensures)
     ∙ sym (put-room _ _ _ (omega arith))
 
 pub write-number-spec : {M : Type 1} → f.Statement.statement M
@@ -23,4 +24,4 @@ write-number-spec =
     (search needs)
     (search needs)
     (search needs)
-    returns-3)
+    returns-last)
