@@ -2,7 +2,7 @@
 -- fall, since the FEL lies ahead of the clock.
 use Rattle.machine.specs.All.{ℕ, _≤_, _<_, zero-le, arith, true, List, [], _∷_, _++_, reverse, Option, none, some, _≡_, refl, sym, subst, _∙_, length, length-map, length-reverse, leb, le-leb, inForce, maxSerial, maxTurns, Transaction, Event, Record, traceBytes, BlockModel, State, Logged, toRel, recordOf, arriveAll, moveClock, nextEvents, takeFirst, takeReady, taking, turn, idle, start, run, Validation, accept, reject, validate, recordsOf, acceptedRun, refusedRun, outcomeOf, outcome, Each, ap}
 use Rattle.codec.proofs.Fields.{both-true}
-use Rattle.machine.proofs.{decoding.Proper.Proper, decoding.ProperFrom.proper-from, decoding.ProperFrom.rules-from, runs.RunLaws.Taken, runs.RunLaws.each-map, runs.RunLaws.last-state, runs.Bounds.bounded, runs.Ahead.Ahead}
+use Rattle.machine.proofs.{decoding.Proper.Proper, decoding.ProperFrom.proper-from, decoding.ProperFrom.rules-from, runs.RunLaws.Taken, runs.RunLaws.each-map, runs.RunLaws.last-state, runs.Bounds.bounded, runs.Ahead.Ahead, basic.Taking.arriveAll-clock}
 use Rattle.trace.proofs.RoundTrip.{trace-reads-whole}
 use Rattle.state.specs.All.{Note, enteredNote, waitsNote, noNote, logged, countEntry, noteAs}
 use Rattle.state.proofs.TurnGains.{Turned, unnoted, noted, turned}
@@ -29,11 +29,6 @@ noted-like : (s s′ : State) → s′ .records ≡ s .records → s .view .cloc
 noted-like s s′ r le h = subst (Falling (s′ .view .clock)) (sym r) (raised _ _ (s .records) le h)
 
 -- ---- The taking never moves the clock back
-
-arriveAll-clock : (l : List Event) (s : State) → arriveAll l s .view .clock ≡ s .view .clock
-unfolding arriveAll toRel
-arriveAll-clock [] s = refl
-arriveAll-clock (e ∷ l) s = arriveAll-clock l _
 
 nextEvents-clock : (l : List Event) (s : State) → Each (λ (e : Event). s .view .clock ≤ e .time) l
     → s .view .clock ≤ nextEvents l s .view .clock

@@ -1,5 +1,6 @@
 -- The next time of a sample list: the number read is the head of the list, and after it is used the tally stands for the rest.
 use Rattle.machine.specs.All.{clash, cases, ℕ, _+_, _-_, _≤_, _<_, _≡_, refl, ap, _∙_, _≢_, Bool, true, false, _&&_, List, [], _∷_, Option, none, some, arith, ℕ-discrete, leb-true, leb, length, getD, set, drop, length-set, getD-set-same, getD-set-other, maxNumberBytes, fiveGroups, maxTime, Number, readNumber, Cursor, Parsed, parsed, refused, Parser, continue, give, times, forward, fieldOf, fieldUpTo}
+use Rattle.machine.proofs.basic.Bools.{and-true}
 use Rattle.layout.specs.Layout as Layout
 use Rattle.layout.specs.All.{TimesAt}
 use Rattle.state.specs.All.{Sampling}
@@ -8,10 +9,6 @@ use mathlib.Core.Path.{subst}
 use mathlib.Core.Bool.{cond}
 
 -- ---- The parser of a list's times, opened
-
-and-right : (a b : Bool) → (a && b) ≡ true → b ≡ true
-and-right true b e = e
-and-right false b e = let z : _≡_ {A = ℕ} 0 1 = cc in absurd (omega (arith, z))
 
 module _ (bytes : List ℕ) where
   abbrev oneTime : Parser ℕ
@@ -49,7 +46,7 @@ module _ (bytes : List ℕ) where
             number = n;
             found = refl;
             value = p .0;
-            most = leb-true (n .value) maxTime (and-right (leb 0 (n .value)) (leb (n .value) maxTime) f);
+            most = leb-true (n .value) maxTime (and-true (leb 0 (n .value)) (leb (n .value) maxTime) f .1);
             rest = p .1;
           }
       go false f e = let z : _≡_ {A = ℕ} 0 1 = cc in absurd (omega (arith, z))

@@ -1,11 +1,13 @@
 -- 18 ASSEMBLE: the row machine does what the machine does.
 use Rattle.machine.specs.All.{ℕ, suc, _+_, _-_, _%_, _≤_, _<_, _≡_, refl, sym, ap, _∙_, Bool, true, false, cond, List, [], _∷_, _++_, map, map-append, none, some, arith, lt-ltb, le-ltb, eqb, length, getD, Transaction, Gatherer, precedes, insert, those, replaceFirst, setNth, terminate, assemble, facts, BlockModel, blockAt, State, withNext, withSerial, withReturning, setMoving, setSerial, setEnded, setGatherers, toRel, inFamily, waitsFor, toGatherers, comes, released, question, askGathers, gathers, Each}
-use Rattle.machine.proofs.runs.Shape.{gatherers-at}
+use Rattle.machine.specs.{Block.Block, Execute.gathering}
+use Rattle.machine.proofs.{runs.Shape.gatherers-at, basic.Lists.those-none}
 use Rattle.layout.specs.All.{blockForms}
 use Rattle.rows_laws.specs.All.{head, rel, read, write, setReturning, removeAt, put, familyCell, lineUp, transactionAt, ending, update, All, moved as movedLists}
-use Rattle.rows_laws.proofs.{Data.same-row, Data.transaction-kept, Fields.write-next, Fields.write-serial, Fields.set-returning, Holding.remove-holds, Holding.remove-keeps, Insertion.map-insert, Making.written, Making.written-trans, Ordering.shows-ext, Laws.Wakes, Found.nobody, Found.somebody}
+use Rattle.rows_laws.specs.{Cells.load, Make.freeRow}
+use Rattle.rows_laws.proofs.{Data.same-row, Data.transaction-kept, Fields.write-next, Fields.write-serial, Fields.set-returning, Holding.remove-holds, Holding.remove-keeps, Insertion.map-insert, Making.written, Making.written-trans, Ordering.shows-ext, Laws.Wakes, Found.nobody, Found.somebody, Making.Written}
 use Rattle.rows_laws.proofs.Kin.{Other, Kin, kin-of, counts-shows, release-shows}
-use Rattle.state.specs.declared.scalars.Scalars.{Scalars}
+use Rattle.state.specs.{declared.scalars.Scalars.Scalars, Bare.goingBack, Bare.waiting, Stands.Listed}
 use Rattle.state.specs.All.{putMoving, putSerial, putNote, entering, beginning, bare, bareAnswer, rowsOf, gathererRow, listsIn, listsOf, Listing, noteOf, Done}
 use Rattle.state.proofs.ListsOf.{lists-gatherers, lists-set-gatherers, lists-moved}
 use Rattle.state.proofs.StandsLaws.{listing-write, listing-put, listing-steady, renumber}
@@ -16,15 +18,8 @@ use Rattle.moves.proofs.MotionLaws.{next32-suc, next-read, number-read}
 use Rattle.flow_laws.specs.{toReady, listAt, gatherOn, releaseOn, endOn, countOn, laterRows, gatherRows, assembleRows}
 use Rattle.flow_laws.proofs as our
 use our.{Asked.holding-asked, TerminateLaw.free-listing}
-use our.Kin.{Match, Split, split, none-of, one-of, those-none, those-first, replaced, each-at}
+use our.Kin.{Match, Split, split, none-of, one-of, those-first, replaced, each-at}
 use mathlib.Core.Path.{subst}
-use Rattle.machine.specs.Block.{Block}
-use Rattle.machine.specs.Execute.{gathering}
-use Rattle.rows_laws.specs.Cells.{load}
-use Rattle.rows_laws.specs.Make.{freeRow}
-use Rattle.rows_laws.proofs.Making.{Written}
-use Rattle.state.specs.Bare.{goingBack, waiting}
-use Rattle.state.specs.Stands.{Listed}
 
 module _ {m : BlockModel} {tape : List (List ℕ)} {tapeBytes tables lists w tally : List ℕ} {x : Scalars} {t : Transaction} {s : State}
     {n : ℕ} (h : Before m tape tapeBytes tables lists w tally x t s (assemble n)) where

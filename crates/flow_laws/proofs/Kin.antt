@@ -70,11 +70,6 @@ module _ (w : List ℕ) where
     one-of k g e h = ap (λ (f : ℕ). eqb f (t .family)) (sym (family-read k g e)) ∙ h
 
 module _ {A : Type 0} (p : A → Bool) where
-  pub those-none : (gs : List A) → Each (λ g. p g ≡ false) gs → those p gs ≡ []
-  unfolding those
-  those-none [] h = refl
-  those-none (g ∷ gs) h = rw (h .0) (those-none gs (h .1))
-
   -- where nobody ahead passes, the first that passes is g
   pub those-first : (ahead : List A) (g : A) (behind : List A) → Each (λ g. p g ≡ false) ahead → p g ≡ true
       → those p (ahead ++ g ∷ behind) ≡ g ∷ those p behind
