@@ -25,8 +25,9 @@ module _ (n : Counts) where
   unfolding simpleTerm rangeOf termOf
   block-operand s c =
       by-tag
-      (λ tag. cond (eqb tag 9) (λ (d : Cursor). continue _ (λ k e. parsed _ e)) (simpleTerm (field s 3) n tag) c
-      ≡ continue _ (λ k d. parsed _ d))
+      (λ tag. cond (eqb tag 9) (λ (d : Cursor). continue (field s 3 1 (n .values) d) (λ k e. parsed (value k) e))
+      (simpleTerm (field s 3) n tag) c
+      ≡ continue (field s 3 (rangeOf n tag .lo) (rangeOf n tag .hi) c) (λ k d. parsed (termOf n tag k) d))
       refl refl refl refl refl refl refl refl refl refl
 
   -- the same inside a value
@@ -38,7 +39,7 @@ module _ (n : Counts) where
   unfolding simpleTerm mentionField rangeOf termOf
   value-operand s c =
       by-tag
-      (λ tag. operandField s n tag c ≡ continue _ (λ k d. operandRest s tag k d))
+      (λ tag. operandField s n tag c ≡ continue (valueNumber s (rangeOf n tag .lo) (rangeOf n tag .hi) c) (λ k d. operandRest s tag k d))
       refl refl refl refl refl refl refl refl refl refl
 
   module _ (k : ℕ) where
@@ -48,6 +49,7 @@ module _ (n : Counts) where
     abbrev stored : ℕ → List ℕ
     stored tag = (rangeOf n tag .plus + (k - rangeOf n tag .lo)) ∷ []
 
+    -- the numbers stored of a term with one operand are its tag and that number
     pub operand-numbers : (tag : ℕ) → tag ≤ 9 → In tag → termNumbers (termOf n tag k) ≡ tag ∷ stored tag
     unfolding rangeOf termOf termNumbers
     operand-numbers =
@@ -63,12 +65,14 @@ module _ (n : Counts) where
         (λ h. ap (λ (x : ℕ). 8 ∷ x ∷ []) (omega arith))
         (λ h. ap (λ (x : ℕ). 9 ∷ x ∷ []) (omega arith))
 
+    -- only tag 4, the entries of a block, names a block
     pub operand-named : (before : ℕ) (tag : ℕ) → tag ≤ 9 → termNamed before (termOf n tag k) ≡ cond (eqb tag 4) (max before k) before
     unfolding termOf termNamed
     operand-named before =
-        by-tag (λ tag. termNamed before (termOf n tag k) ≡ cond (eqb tag 4) _ before)
+        by-tag (λ tag. termNamed before (termOf n tag k) ≡ cond (eqb tag 4) (max before k) before)
         refl refl refl refl refl refl refl refl refl refl
 
+    -- its operand fits the cell
     pub operand-small : (tag : ℕ) → tag ≤ 9 → In tag → T (smallTerm (termOf n tag k))
     unfolding rangeOf termOf smallTerm
     operand-small =

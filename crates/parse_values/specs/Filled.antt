@@ -26,5 +26,6 @@ module _ {A : Type 0} where
       (r ≡ Done (placeOf c (allNamed (sh .named) (p .named) l))) × (after ≡ storedRows (sh .numbers) w at l cells) × Each holds l
   HeldRows sh holds w at p cells after r (refused n) = r ≡ Refused n
 
-  pub record Filled (sh : Shape A) (holds : A → Type 0) (w at : ℕ) (p : Place) (cells after : List ℕ) (r : Stored) (P : Parsed (List A)) : Type 0 where
+  pub record Filled (sh : Shape A) (holds : A → Type 0) (w at : ℕ) (p : Place) (cells after : List ℕ) (r : Stored)
+      (P : Parsed (List A)) : Type 0 where
     pub held : HeldRows sh holds w at p cells after r P

@@ -15,7 +15,14 @@ pub record Within (m : Model) : Type 0 where
 
 abbrev pub countsOf : Model → Counts
 countsOf m =
-    record { facilities = m .facilities; storages = m .storages; queues = m .queues; values = m .values; lists = m .lists; blocks = m .blocks }
+    record {
+      facilities = m .facilities;
+      storages = m .storages;
+      queues = m .queues;
+      values = m .values;
+      lists = m .lists;
+      blocks = m .blocks;
+    }
 
 -- ---- The number after a tag from 0 to 9
 

@@ -69,7 +69,8 @@ pub fn keep(
     plus: usize,
 ) -> Taken
     requires { ⌜ (to < tablesSize) × Fits lo hi plus ⌝ }
-    ensures { λ r. ⌜ Takes (numberShape lo hi plus) p to (now (tables .entry)) (now (tables .exit)) r (field (now (s .entry)) 3 lo hi (cursorOf p)) ⌝ }
+    ensures { λ r. ⌜
+        Takes (numberShape lo hi plus) p to (now (tables .entry)) (now (tables .exit)) r (field (now (s .entry)) 3 lo hi (cursorOf p)) ⌝ }
     ensures range { λ r. ⌜ ((v : ℕ) (q : Place) → r ≡ Taken.Number v q → (lo ≤ v) × (v ≤ hi)) ⌝ }
 {
     match number(s, p, lo, hi) {
@@ -92,7 +93,9 @@ fn keep_counted(
     plus: usize,
 ) -> Taken
     requires { ⌜ (base + valueWidth ≤ tablesSize) × Fits lo hi plus ⌝ }
-    ensures { λ r. ⌜ Takes (countedShape lo hi plus) p (base + p .numbers) (now (tables .entry)) (now (tables .exit)) r (valueNumber (now (s .entry)) lo hi (cursorOf p)) ⌝ }
+    ensures { λ r. ⌜
+        Takes (countedShape lo hi plus) p (base + p .numbers) (now (tables .entry)) (now (tables .exit)) r
+        (valueNumber (now (s .entry)) lo hi (cursorOf p)) ⌝ }
     ensures range { λ r. ⌜ ((v : ℕ) (q : Place) → r ≡ Taken.Number v q → (lo ≤ v) × (v ≤ hi)) ⌝ }
 {
     match number(s, p, lo, hi) {
@@ -187,7 +190,8 @@ pub fn term_range(m: Model, tag: usize) -> Range
 // A term of a block: tags 0 to 9.
 pub fn block_term(s: &[u8], tables: &mut [u32; TABLES], to: usize, m: Model, p: Place) -> Stored
     requires { ⌜ (to + 1 < tablesSize) × Within m ⌝ }
-    ensures { λ r. ⌜ Stores blockTermShape p to (now (tables .entry)) (now (tables .exit)) r (blockTerm (now (s .entry)) (countsOf m) (cursorOf p)) ⌝ }
+    ensures { λ r. ⌜
+        Stores blockTermShape p to (now (tables .entry)) (now (tables .exit)) r (blockTerm (now (s .entry)) (countsOf m) (cursorOf p)) ⌝ }
 {
     match keep(s, tables, to, p, 0, VALUE_TAG, 0) {
         Taken::Refused(n) => Stored::Refused(n),
@@ -211,7 +215,9 @@ fn operand(
     p: Place,
 ) -> Stored
     requires { ⌜ (base + valueWidth ≤ tablesSize) × Within m × (tag ≤ 9) ⌝ }
-    ensures { λ r. ⌜ Stores (operandShape tag) p (base + p .numbers) (now (tables .entry)) (now (tables .exit)) r (operandField (now (s .entry)) (countsOf m) tag (cursorOf p)) ⌝ }
+    ensures { λ r. ⌜
+        Stores (operandShape tag) p (base + p .numbers) (now (tables .entry)) (now (tables .exit)) r
+        (operandField (now (s .entry)) (countsOf m) tag (cursorOf p)) ⌝ }
 {
     let range = term_range(m, tag);
     match keep_counted(s, tables, base, p, range.lo, range.hi, range.plus) {
@@ -256,7 +262,9 @@ fn value_term(
     p: Place,
 ) -> Stored
     requires { ⌜ (base + valueWidth ≤ tablesSize) × Within m ⌝ }
-    ensures { λ r. ⌜ Stores termShape p (base + p .numbers) (now (tables .entry)) (now (tables .exit)) r (valueTerm (now (s .entry)) (countsOf m) depth (cursorOf p)) ⌝ }
+    ensures { λ r. ⌜
+        Stores termShape p (base + p .numbers) (now (tables .entry)) (now (tables .exit)) r
+        (valueTerm (now (s .entry)) (countsOf m) depth (cursorOf p)) ⌝ }
 {
     match keep_counted(s, tables, base, p, 0, BRACKET_TAG, 0) {
         Taken::Refused(n) => Stored::Refused(n),
@@ -285,7 +293,9 @@ fn comparison(
     p: Place,
 ) -> Stored
     requires { ⌜ (base + valueWidth ≤ tablesSize) × Within m ⌝ }
-    ensures { λ r. ⌜ Stores (operandShape 10) p (base + p .numbers) (now (tables .entry)) (now (tables .exit)) r (comparisonField (now (s .entry)) (valueTerm (now (s .entry)) (countsOf m) depth) (cursorOf p)) ⌝ }
+    ensures { λ r. ⌜
+        Stores (operandShape 10) p (base + p .numbers) (now (tables .entry)) (now (tables .exit)) r
+        (comparisonField (now (s .entry)) (valueTerm (now (s .entry)) (countsOf m) depth) (cursorOf p)) ⌝ }
 {
     match keep_counted(s, tables, base, p, 1, RELATIONS, 1) {
         Taken::Refused(n) => Stored::Refused(n),
@@ -306,7 +316,9 @@ fn sum(
     p: Place,
 ) -> Stored
     requires { ⌜ (base + valueWidth ≤ tablesSize) × Within m ⌝ }
-    ensures { λ r. ⌜ Stores sumShape p (base + p .numbers) (now (tables .entry)) (now (tables .exit)) r (sumField (now (s .entry)) (valueTerm (now (s .entry)) (countsOf m) depth) (cursorOf p)) ⌝ }
+    ensures { λ r. ⌜
+        Stores sumShape p (base + p .numbers) (now (tables .entry)) (now (tables .exit)) r
+        (sumField (now (s .entry)) (valueTerm (now (s .entry)) (countsOf m) depth) (cursorOf p)) ⌝ }
 {
     match keep_counted(s, tables, base, p, 1, Model::MAX_TERMS, 1) {
         Taken::Refused(n) => Stored::Refused(n),
@@ -325,7 +337,9 @@ fn sum_terms(
     p: Place,
 ) -> Stored
     requires { ⌜ (base + valueWidth ≤ tablesSize) × Within m ⌝ }
-    ensures { λ r. ⌜ Stores (termsShape left) p (base + p .numbers) (now (tables .entry)) (now (tables .exit)) r (sumTerms (now (s .entry)) left (valueTerm (now (s .entry)) (countsOf m) depth) (cursorOf p)) ⌝ }
+    ensures { λ r. ⌜
+        Stores (termsShape left) p (base + p .numbers) (now (tables .entry)) (now (tables .exit)) r
+        (sumTerms (now (s .entry)) left (valueTerm (now (s .entry)) (countsOf m) depth) (cursorOf p)) ⌝ }
 {
     if left == 0 {
         return Stored::Done(p);
@@ -342,7 +356,9 @@ fn sum_terms(
 // Value k (from 0), whose limits begin anew.
 pub fn value(s: &[u8], tables: &mut [u32; TABLES], k: usize, m: Model, p: Place) -> Stored
     requires { ⌜ (k < maxValues) × Within m ⌝ }
-    ensures { λ r. ⌜ Stores valueShape p (Layout.values + valueWidth * k) (now (tables .entry)) (now (tables .exit)) r (valueField (now (s .entry)) (countsOf m) (cursorOf p)) ⌝ }
+    ensures { λ r. ⌜
+        Stores valueShape p (Layout.values + valueWidth * k) (now (tables .entry)) (now (tables .exit)) r
+        (valueField (now (s .entry)) (countsOf m) (cursorOf p)) ⌝ }
 {
     let base = VALUES + VALUE_WIDTH * k;
     sum(
@@ -363,7 +379,9 @@ pub fn value(s: &[u8], tables: &mut [u32; TABLES], k: usize, m: Model, p: Place)
 // The values of a model, each behind the lower-numbered ones that it may name.
 pub fn values(s: &[u8], tables: &mut [u32; TABLES], m: Model, p: Place) -> Stored
     requires { ⌜ Within m ⌝ }
-    ensures { λ r. ⌜ Filled valueShape ProperValue valueWidth Layout.values p (now (tables .entry)) (now (tables .exit)) r (valueFields (now (s .entry)) (beforeValues m) (m .values) 0 (cursorOf p)) ⌝ }
+    ensures { λ r. ⌜
+        Filled valueShape ProperValue valueWidth Layout.values p (now (tables .entry)) (now (tables .exit)) r
+        (valueFields (now (s .entry)) (beforeValues m) (m .values) 0 (cursorOf p)) ⌝ }
 {
     let mut k = 0;
     let mut q = p;

@@ -117,7 +117,8 @@ comparison-value-term-requires-2 : (t : ℕ) → comparison-lts.Need-value-term-
   value-term-below t,
   value-term.Post,
 ) (comparison-at t) comparison.Post
-comparison-value-term-requires-2 t c κs = (omega arith, c .before .before .before .before .before .before .before .before .before .before .before .before .pre .1)
+comparison-value-term-requires-2 t c κs =
+    (omega arith, c .before .before .before .before .before .before .before .before .before .before .before .before .pre .1)
 
 comparison-returns : (t : ℕ) → comparison-lts.Need-returns (
   keep-counted-reads.Asked,
@@ -133,7 +134,10 @@ comparison-returns-2 : (t : ℕ) → comparison-lts.Need-returns-2 (
   value-term-below t,
   value-term.Post,
 ) (comparison-at t) comparison.Post
-comparison-returns-2 t c = comparison-stop-2 _ _ _ (c .before .before .before .before .before .before .before .before .keep-counted .ensures .0) (c .before .before .before .before .before .before .q .given .1) (c .before .before .before .value-term .ensures) _ (c .before .n2 .given .1)
+comparison-returns-2 t c =
+    comparison-stop-2 _ _ _ (c .before .before .before .before .before .before .before .before .keep-counted .ensures .0)
+    (c .before .before .before .before .before .before .q .given .1) (c .before .before .before .value-term .ensures) _
+    (c .before .n2 .given .1)
 
 comparison-returns-3 : (t : ℕ) → comparison-lts.Need-returns-3 (
   keep-counted-reads.Asked,
@@ -141,7 +145,11 @@ comparison-returns-3 : (t : ℕ) → comparison-lts.Need-returns-3 (
   value-term-below t,
   value-term.Post,
 ) (comparison-at t) comparison.Post
-comparison-returns-3 t c = comparison-kept _ _ _ (c .before .before .before .before .before .before .before .before .before .before .keep-counted .ensures .0) (c .before .before .before .before .before .before .before .before .q .given .1) (c .before .before .before .before .before .value-term .ensures) (c .before .before .before .left .given .1) (c .value-term2 .ensures)
+comparison-returns-3 t c =
+    comparison-kept _ _ _ (c .before .before .before .before .before .before .before .before .before .before .keep-counted .ensures .0)
+    (c .before .before .before .before .before .before .before .before .q .given .1)
+    (c .before .before .before .before .before .value-term .ensures) (c .before .before .before .left .given .1)
+    (c .value-term2 .ensures)
 
 sum-keep-counted-requires : (t : ℕ) → sum-lts.Need-keep-counted-requires (
   keep-counted-reads.Asked,
@@ -173,7 +181,10 @@ sum-sum-terms-requires : (t : ℕ) → sum-lts.Need-sum-terms-requires (
   sum-terms-below t,
   sum-terms.Post,
 ) (sum-at t) sum.Post
-sum-sum-terms-requires t c κs = (omega (arith, c .before .before .before .before .keep-counted .ensures .1 _ _ (c .before .before .count .given .1)), c .before .before .before .before .before .before .before .pre .1)
+sum-sum-terms-requires t c κs = (
+  omega (arith, c .before .before .before .before .keep-counted .ensures .1 _ _ (c .before .before .count .given .1)),
+  c .before .before .before .before .before .before .before .pre .1,
+)
 
 sum-returns : (t : ℕ) → sum-lts.Need-returns (
   keep-counted-reads.Asked,
@@ -189,7 +200,9 @@ sum-returns-2 : (t : ℕ) → sum-lts.Need-returns-2 (
   sum-terms-below t,
   sum-terms.Post,
 ) (sum-at t) sum.Post
-sum-returns-2 t c = sum-kept _ _ _ (c .before .before .before .before .before .keep-counted .ensures .0) (c .before .before .before .count .given .1) (c .sum-terms .ensures)
+sum-returns-2 t c =
+    sum-kept _ _ _ (c .before .before .before .before .before .keep-counted .ensures .0) (c .before .before .before .count .given .1)
+    (c .sum-terms .ensures)
 
 sum-terms-returns : (t : ℕ) → sum-terms-lts.Need-returns (
   keep-counted-reads.Asked,
@@ -279,7 +292,8 @@ sum-terms-sum-terms-requires : (t : ℕ) → sum-terms-lts.Need-sum-terms-requir
   sum-terms-below t,
   sum-terms.Post,
 ) (sum-terms-at t) sum-terms.Post
-sum-terms-sum-terms-requires t c κs = (omega arith, c .before .before .before .before .before .before .before .before .before .before .before .before .before .pre .1)
+sum-terms-sum-terms-requires t c κs =
+    (omega arith, c .before .before .before .before .before .before .before .before .before .before .before .before .before .pre .1)
 
 sum-terms-returns-2 : (t : ℕ) → sum-terms-lts.Need-returns-2 (
   keep-counted-reads.Asked,
@@ -289,7 +303,9 @@ sum-terms-returns-2 : (t : ℕ) → sum-terms-lts.Need-returns-2 (
   sum-terms-below t,
   sum-terms.Post,
 ) (sum-terms-at t) sum-terms.Post
-sum-terms-returns-2 t c = terms-stop _ _ _ (c .before .before .before .keep-counted .ensures .0) (c .before .before .before .before .before .if1 .left) _ (c .before .n .given .1)
+sum-terms-returns-2 t c =
+    terms-stop _ _ _ (c .before .before .before .keep-counted .ensures .0) (c .before .before .before .before .before .if1 .left) _
+    (c .before .n .given .1)
 
 sum-terms-returns-3 : (t : ℕ) → sum-terms-lts.Need-returns-3 (
   keep-counted-reads.Asked,
@@ -299,7 +315,11 @@ sum-terms-returns-3 : (t : ℕ) → sum-terms-lts.Need-returns-3 (
   sum-terms-below t,
   sum-terms.Post,
 ) (sum-terms-at t) sum-terms.Post
-sum-terms-returns-3 t c = terms-stop-2 _ _ _ (c .before .before .before .before .before .before .before .before .keep-counted .ensures .0) (c .before .before .before .before .before .before .before .before .before .before .if1 .left) (c .before .before .before .before .before .before .q .given .1) (c .before .before .before .value-term .ensures) _ (c .before .n2 .given .1)
+sum-terms-returns-3 t c =
+    terms-stop-2 _ _ _ (c .before .before .before .before .before .before .before .before .keep-counted .ensures .0)
+    (c .before .before .before .before .before .before .before .before .before .before .if1 .left)
+    (c .before .before .before .before .before .before .q .given .1) (c .before .before .before .value-term .ensures) _
+    (c .before .n2 .given .1)
 
 sum-terms-returns-4 : (t : ℕ) → sum-terms-lts.Need-returns-4 (
   keep-counted-reads.Asked,
@@ -309,7 +329,12 @@ sum-terms-returns-4 : (t : ℕ) → sum-terms-lts.Need-returns-4 (
   sum-terms-below t,
   sum-terms.Post,
 ) (sum-terms-at t) sum-terms.Post
-sum-terms-returns-4 t c = terms-kept _ _ _ (c .before .before .before .before .before .before .before .before .before .before .keep-counted .ensures .0) (c .before .before .before .before .before .before .before .before .before .before .before .before .if1 .left) (c .before .before .before .before .before .before .before .before .q .given .1) (c .before .before .before .before .before .value-term .ensures) (c .before .before .before .after .given .1) (c .sum-terms .ensures)
+sum-terms-returns-4 t c =
+    terms-kept _ _ _ (c .before .before .before .before .before .before .before .before .before .before .keep-counted .ensures .0)
+    (c .before .before .before .before .before .before .before .before .before .before .before .before .if1 .left)
+    (c .before .before .before .before .before .before .before .before .q .given .1)
+    (c .before .before .before .before .before .value-term .ensures) (c .before .before .before .after .given .1)
+    (c .sum-terms .ensures)
 
 value-term-keep-counted-requires : (t : ℕ) → value-term-lts.Need-keep-counted-requires (
   keep-counted-reads.Asked,
@@ -357,7 +382,11 @@ value-term-operand-requires : (t : ℕ) → value-term-lts.Need-operand-requires
   sum-below t,
   sum.Post,
 ) (value-term-at t) value-term.Post
-value-term-operand-requires t c κs = (c .before .before .before .before .before .before .before .before .pre .1 .0, c .before .before .before .before .before .before .before .before .pre .1 .1, c .before .if1 .taken)
+value-term-operand-requires t c κs = (
+  c .before .before .before .before .before .before .before .before .pre .1 .0,
+  c .before .before .before .before .before .before .before .before .pre .1 .1,
+  c .before .if1 .taken,
+)
 
 value-term-returns : (t : ℕ) → value-term-lts.Need-returns (
   keep-counted-reads.Asked,
@@ -369,7 +398,9 @@ value-term-returns : (t : ℕ) → value-term-lts.Need-returns (
   sum-below t,
   sum.Post,
 ) (value-term-at t) value-term.Post
-value-term-returns t c = term-operand _ _ _ _ (c .before .before .before .before .before .before .keep-counted .ensures .0) (c .before .before .before .before .tag .given .1) (c .before .before .if1 .taken) (c .operand .ensures)
+value-term-returns t c =
+    term-operand _ _ _ _ (c .before .before .before .before .before .before .keep-counted .ensures .0)
+    (c .before .before .before .before .tag .given .1) (c .before .before .if1 .taken) (c .operand .ensures)
 
 value-term-returns-2 : (t : ℕ) → value-term-lts.Need-returns-2 (
   keep-counted-reads.Asked,
@@ -381,7 +412,9 @@ value-term-returns-2 : (t : ℕ) → value-term-lts.Need-returns-2 (
   sum-below t,
   sum.Post,
 ) (value-term-at t) value-term.Post
-value-term-returns-2 t c = term-fifth _ _ _ _ (c .before .before .before .before .before .keep-counted .ensures .0) (c .before .before .before .tag .given .1) _ (c .before .if1 .left) (c .if2 .taken)
+value-term-returns-2 t c =
+    term-fifth _ _ _ _ (c .before .before .before .before .before .keep-counted .ensures .0) (c .before .before .before .tag .given .1) _
+    (c .before .if1 .left) (c .if2 .taken)
 
 value-term-sub-comparison : (t : ℕ) → value-term-lts.Need-sub-comparison (
   keep-counted-reads.Asked,
@@ -405,7 +438,8 @@ value-term-comparison-requires : (t : ℕ) → value-term-lts.Need-comparison-re
   sum-below t,
   sum.Post,
 ) (value-term-at t) value-term.Post
-value-term-comparison-requires t c κs = (omega arith, c .before .before .before .before .before .before .before .before .before .before .pre .1)
+value-term-comparison-requires t c κs =
+    (omega arith, c .before .before .before .before .before .before .before .before .before .before .pre .1)
 
 value-term-returns-3 : (t : ℕ) → value-term-lts.Need-returns-3 (
   keep-counted-reads.Asked,
@@ -417,7 +451,10 @@ value-term-returns-3 : (t : ℕ) → value-term-lts.Need-returns-3 (
   sum-below t,
   sum.Post,
 ) (value-term-at t) value-term.Post
-value-term-returns-3 t c = term-comparison _ _ _ _ (c .before .before .before .before .before .before .before .before .keep-counted .ensures .0) (c .before .before .before .before .before .before .tag .given .1) (c .before .before .before .if2 .left) (c .before .before .if3 .taken) (c .comparison .ensures)
+value-term-returns-3 t c =
+    term-comparison _ _ _ _ (c .before .before .before .before .before .before .before .before .keep-counted .ensures .0)
+    (c .before .before .before .before .before .before .tag .given .1) (c .before .before .before .if2 .left)
+    (c .before .before .if3 .taken) (c .comparison .ensures)
 
 value-term-sub-sum : (t : ℕ) → value-term-lts.Need-sub-sum (
   keep-counted-reads.Asked,
@@ -465,7 +502,10 @@ value-term-returns-5 : (t : ℕ) → value-term-lts.Need-returns-5 (
   sum-below t,
   sum.Post,
 ) (value-term-at t) value-term.Post
-value-term-returns-5 t c = term-bracket _ _ _ _ (c .before .before .before .before .before .before .before .before .keep-counted .ensures .0) (c .before .before .before .before .before .before .tag .given .1) (c .before .before .before .if2 .left) (c .before .before .before .before .if1 .left) (c .before .before .if3 .left) (c .sum .ensures)
+value-term-returns-5 t c =
+    term-bracket _ _ _ _ (c .before .before .before .before .before .before .before .before .keep-counted .ensures .0)
+    (c .before .before .before .before .before .before .tag .given .1) (c .before .before .before .if2 .left)
+    (c .before .before .before .before .if1 .left) (c .before .before .if3 .left) (c .sum .ensures)
 
 pub +comparison+sum+sum-terms+value-term-spec : {M : Type 1} → statement M
 +comparison+sum+sum-terms+value-term-spec =

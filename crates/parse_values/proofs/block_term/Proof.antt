@@ -4,15 +4,28 @@ use our.Steps.{block-stop, block-stop-2, block-read}
 use our.block_term as f
 use Rattle.machine.specs.All.{needs}
 
-returns-2 : f.Tie.Need-returns-2
-returns-2 c =
-    let b = c .before .before .before .before .before in
-    block-stop-2 _ _ (b .before .before .before .before .keep .ensures .0) (b .before .before .tag .given .1) (rw (b .term-range .ensures .0) at (c .before .before .before .keep2 .ensures .0)) (c .before .n2 .given .1)
+returns-refused-keep : f.Tie.Need-returns
+returns-refused-keep c =
+    let at-keep : f.Tie.After-keep = search in
+    block-stop _ _ (at-keep .keep .ensures .0) _ (c .before .n .given .1)
 
-returns-3 : f.Tie.Need-returns-3
-returns-3 c =
-    let b = c .before .before .before .before .before in
-    block-read _ _ (b .before .before .before .before .keep .ensures .0) (b .before .before .tag .given .1) (rw (b .term-range .ensures .0) at (c .before .before .before .keep2 .ensures .0)) (c .before .after .given .1)
+returns-refused-keep-2 : f.Tie.Need-returns-2
+returns-refused-keep-2 c =
+    let at-keep2 : f.Tie.After-keep2 = search in
+    let at-term-range : f.Tie.After-term-range = search in
+    let at-tag : f.Tie.After-tag = search in
+    let at-keep : f.Tie.After-keep = search in
+    block-stop-2 _ _ (at-keep .keep .ensures .0) (at-tag .tag .given .1)
+    (rw (at-term-range .term-range .ensures .0) at (at-keep2 .keep2 .ensures .0)) (c .before .n2 .given .1)
+
+returns-number : f.Tie.Need-returns-3
+returns-number c =
+    let at-keep2 : f.Tie.After-keep2 = search in
+    let at-term-range : f.Tie.After-term-range = search in
+    let at-tag : f.Tie.After-tag = search in
+    let at-keep : f.Tie.After-keep = search in
+    block-read _ _ (at-keep .keep .ensures .0) (at-tag .tag .given .1)
+    (rw (at-term-range .term-range .ensures .0) at (at-keep2 .keep2 .ensures .0)) (c .before .after .given .1)
 
 pub block-term-spec : {M : Type 1} → f.Statement.statement M
 block-term-spec =
@@ -26,6 +39,6 @@ block-term-spec =
     (search needs)
     (search needs)
     (search needs)
-    (λ c. block-stop _ _ (c .before .before .before .keep .ensures .0) _ (c .before .n .given .1))
-    returns-2
-    returns-3)
+    returns-refused-keep
+    returns-refused-keep-2
+    returns-number)

@@ -4,11 +4,41 @@ use Rattle.parse_values.proofs as our
 use our.Steps.{counted-refused, counted-past, counted-read, taken-number, taken-range}
 use our.keep_counted as f
 
-returns-3 : f.Tie.Need-returns-3
-returns-3 c =
-    let b = c .before .before in
-    let inside = b .before .before .number .ensures .1 _ _ (b .v .given .1) in (
-      counted-read _ (b .before .before .number .ensures .0) _ _ _ (b .v .given .1) (c .if1 .left),
+returns-refused : f.Tie.Need-returns
+returns-refused c =
+    let at-v : f.Tie.After-v = search in
+    let at-number : f.Tie.After-number = search in
+    (counted-past _ (at-number .number .ensures .0) _ _ _ _ (at-v .v .given .1) (c .if1 .taken), λ v q e. absurd (taken-number e))
+
+sub-tables : f.Tie.Need-sub-tables
+sub-tables c =
+    let at-v : f.Tie.After-v = search in
+    let at-number : f.Tie.After-number = search in
+    omega (arith, at-number .number .ensures .1 _ _ (at-v .v .given .1))
+
+add-tables : f.Tie.Need-add-tables
+add-tables c =
+    let at-v : f.Tie.After-v = search in
+    let at-number : f.Tie.After-number = search in
+    omega (arith, at-number .number .ensures .1 _ _ (at-v .v .given .1))
+
+cast-tables : f.Tie.Need-cast-tables
+cast-tables c =
+    let at-v : f.Tie.After-v = search in
+    let at-number : f.Tie.After-number = search in
+    omega (arith, at-number .number .ensures .1 _ _ (at-v .v .given .1))
+
+returns-max-value-numbers-at-most-numbers : f.Tie.Need-returns-2
+returns-max-value-numbers-at-most-numbers c =
+    let at-number : f.Tie.After-number = search in
+    (counted-refused _ (at-number .number .ensures .0) _ _ _ _ (c .before .n .given .1), λ v q e. absurd (taken-number e))
+
+returns-number : f.Tie.Need-returns-3
+returns-number c =
+    let at-v : f.Tie.After-v = search in
+    let at-number : f.Tie.After-number = search in
+    let inside = at-number .number .ensures .1 _ _ (at-v .v .given .1) in (
+      counted-read _ (at-number .number .ensures .0) _ _ _ (at-v .v .given .1) (c .if1 .left),
       λ v q e. taken-range (inside .0) (inside .1) e,
     )
 
@@ -19,13 +49,13 @@ keep-counted-spec =
     (search needs)
     (search needs)
     (search needs)
-    (λ c. (counted-past _ (c .before .before .before .before .number .ensures .0) _ _ _ _ (c .before .before .v .given .1) (c .if1 .taken), λ v q e. absurd (taken-number e)))
-    (λ c. omega (arith, c .before .before .before .before .number .ensures .1 _ _ (c .before .before .v .given .1)))
-    (λ c. omega (arith, c .before .before .before .before .number .ensures .1 _ _ (c .before .before .v .given .1)))
-    (λ c. omega (arith, c .before .before .before .before .number .ensures .1 _ _ (c .before .before .v .given .1)))
+    returns-refused
+    sub-tables
+    add-tables
+    cast-tables
     (search needs)
     (search needs)
     (search needs)
     (search needs)
-    (λ c. (counted-refused _ (c .before .before .before .number .ensures .0) _ _ _ _ (c .before .n .given .1), λ v q e. absurd (taken-number e)))
-    returns-3)
+    returns-max-value-numbers-at-most-numbers
+    returns-number)

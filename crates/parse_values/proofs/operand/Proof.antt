@@ -4,37 +4,64 @@ use our.Steps.{operand-stop, operand-third, operand-mention, operand-larger, ope
 use our.operand as f
 use Rattle.machine.specs.All.{needs}
 
-returns : f.Tie.Need-returns
-returns c =
-    let b = c .before .before .before .before in
-    operand-third _ _ _ _ (b .before .before .before .before .before .before .pre .2) (rw (b .before .before .before .before .term-range .ensures .0) at (b .before .before .keep-counted .ensures .0)) (b .v .given .1) (c .before .before .if1 .taken) (c .if2 .taken)
+returns-refused : f.Tie.Need-returns
+returns-refused c =
+    let at-then1 : f.Tie.Then1 = search in
+    let at-v : f.Tie.After-v = search in
+    let at-keep-counted : f.Tie.After-keep-counted = search in
+    let at-term-range : f.Tie.After-term-range = search in
+    let start : f.Tie.Start = search in
+    operand-third _ _ _ _ (start .pre .2) (rw (at-term-range .term-range .ensures .0) at (at-keep-counted .keep-counted .ensures .0))
+    (at-v .v .given .1) (at-then1 .if1 .taken) (c .if2 .taken)
 
-returns-2 : f.Tie.Need-returns-2
-returns-2 c =
-    let b = c .before .before .before .before .before in
-    operand-mention _ _ _ _ (b .before .before .before .before .before .before .pre .2) (rw (b .before .before .before .before .term-range .ensures .0) at (b .before .before .keep-counted .ensures .0)) (b .v .given .1) (c .before .before .before .if1 .taken) (c .before .if2 .left)
+returns-max-mentions-at-most-mentions : f.Tie.Need-returns-2
+returns-max-mentions-at-most-mentions c =
+    let at-then1 : f.Tie.Then1 = search in
+    let at-v : f.Tie.After-v = search in
+    let at-keep-counted : f.Tie.After-keep-counted = search in
+    let at-term-range : f.Tie.After-term-range = search in
+    let start : f.Tie.Start = search in
+    operand-mention _ _ _ _ (start .pre .2) (rw (at-term-range .term-range .ensures .0) at (at-keep-counted .keep-counted .ensures .0))
+    (at-v .v .given .1) (at-then1 .if1 .taken) (c .before .if2 .left)
 
-returns-3 : f.Tie.Need-returns-3
-returns-3 c =
-    let d = c .before .before in
-    let b = d .before .before .before in
-    operand-larger _ _ _ _ (b .before .before .before .before .before .before .pre .2) (rw (b .before .before .before .before .term-range .ensures .0) at (b .before .before .keep-counted .ensures .0)) (b .v .given .1) (d .before .if1 .left) (d .if3 .taken) (c .if4 .taken)
+returns-tag-is-value-tag : f.Tie.Need-returns-3
+returns-tag-is-value-tag c =
+    let at-then3 : f.Tie.Then3 = search in
+    let at-else1 : f.Tie.Else1 = search in
+    let at-v : f.Tie.After-v = search in
+    let at-keep-counted : f.Tie.After-keep-counted = search in
+    let at-term-range : f.Tie.After-term-range = search in
+    let start : f.Tie.Start = search in
+    operand-larger _ _ _ _ (start .pre .2) (rw (at-term-range .term-range .ensures .0) at (at-keep-counted .keep-counted .ensures .0))
+    (at-v .v .given .1) (at-else1 .if1 .left) (at-then3 .if3 .taken) (c .if4 .taken)
 
-returns-4 : f.Tie.Need-returns-4
-returns-4 c =
-    let d = c .before .before in
-    let b = d .before .before .before in
-    operand-lower _ _ _ _ (b .before .before .before .before .before .before .pre .2) (rw (b .before .before .before .before .term-range .ensures .0) at (b .before .before .keep-counted .ensures .0)) (b .v .given .1) (d .before .if1 .left) (d .if3 .taken) (c .if4 .left)
+returns-named-below-v : f.Tie.Need-returns-4
+returns-named-below-v c =
+    let at-then3 : f.Tie.Then3 = search in
+    let at-else1 : f.Tie.Else1 = search in
+    let at-v : f.Tie.After-v = search in
+    let at-keep-counted : f.Tie.After-keep-counted = search in
+    let at-term-range : f.Tie.After-term-range = search in
+    let start : f.Tie.Start = search in
+    operand-lower _ _ _ _ (start .pre .2) (rw (at-term-range .term-range .ensures .0) at (at-keep-counted .keep-counted .ensures .0))
+    (at-v .v .given .1) (at-else1 .if1 .left) (at-then3 .if3 .taken) (c .if4 .left)
 
-returns-5 : f.Tie.Need-returns-5
-returns-5 c =
-    let b = c .before .before .before in
-    operand-stop _ _ _ _ (b .before .before .before .before .pre .2) (rw (b .before .before .term-range .ensures .0) at (b .keep-counted .ensures .0)) (c .before .n .given .1)
+returns-tag-is-entries-tag : f.Tie.Need-returns-5
+returns-tag-is-entries-tag c =
+    let at-keep-counted : f.Tie.After-keep-counted = search in
+    let at-term-range : f.Tie.After-term-range = search in
+    let start : f.Tie.Start = search in
+    operand-stop _ _ _ _ (start .pre .2) (rw (at-term-range .term-range .ensures .0) at (at-keep-counted .keep-counted .ensures .0))
+    (c .before .n .given .1)
 
-returns-6 : f.Tie.Need-returns-6
-returns-6 c =
-    let b = c .before .before .before .before .before in
-    operand-other _ _ _ _ (b .before .before .before .before .pre .2) (rw (b .before .before .term-range .ensures .0) at (b .keep-counted .ensures .0)) (c .before .before .before .v .given .1) (c .before .if1 .left) (c .if3 .left)
+returns-number : f.Tie.Need-returns-6
+returns-number c =
+    let at-v : f.Tie.After-v = search in
+    let at-keep-counted : f.Tie.After-keep-counted = search in
+    let at-term-range : f.Tie.After-term-range = search in
+    let start : f.Tie.Start = search in
+    operand-other _ _ _ _ (start .pre .2) (rw (at-term-range .term-range .ensures .0) at (at-keep-counted .keep-counted .ensures .0))
+    (at-v .v .given .1) (c .before .if1 .left) (c .if3 .left)
 
 pub operand-spec : {M : Type 1} → f.Statement.statement M
 operand-spec =
@@ -44,10 +71,10 @@ operand-spec =
     (search needs)
     (search needs)
     (search needs)
-    returns
+    returns-refused
     (search needs)
-    returns-2
-    returns-3
-    returns-4
-    returns-5
-    returns-6)
+    returns-max-mentions-at-most-mentions
+    returns-tag-is-value-tag
+    returns-named-below-v
+    returns-tag-is-entries-tag
+    returns-number)
