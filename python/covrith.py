@@ -23,8 +23,9 @@ import pathlib
 from dataclasses import dataclass
 from typing import Any, Dict, Iterable, Iterator, List, NamedTuple, Optional, Sequence, Tuple, Union
 
+from covrith_curves import discrete, empirical, erlang, exponential, lognormal, normal, triangular, uniform, weibull
 from covrith_lists import (
-    CLOCK, BytesLike, Curve, Distribution, Fixed, Model, Spread, bracket, comparison, constant, content, entries, in_use, lent, model_bytes,
+    CLOCK, BytesLike, Curve, Distribution, Drawn, Fixed, Model, Spread, bracket, comparison, constant, content, entries, in_use, lent, model_bytes,
     parameter, sequence, summed, tape, tape_arguments, tape_bytes, units_free, units_in_use, value, whole,
 )  # fmt: skip
 from covrith_names import End, Kind, NoReport, Place, Refusal, Refused
@@ -32,7 +33,8 @@ from covrith_report import Header, Living, Queue, Report, Server
 
 __all__ = [
     "run", "load", "Run", "Header", "Report", "Server", "Queue", "Living", "Record", "records", "record_bytes", "count", "to_columns", "from_columns", "draws",
-    "make_tape", "join", "Distribution", "Fixed", "Spread", "Curve",
+    "make_tape", "draw_tape", "join", "Distribution", "Fixed", "Spread", "Curve", "Drawn",
+    "exponential", "uniform", "normal", "erlang", "triangular", "lognormal", "weibull", "discrete", "empirical",
     "End", "Kind", "NoReport", "Place", "Refusal", "Refused", "Model", "tape", "CLOCK", "bracket", "comparison", "constant", "content",
     "entries", "in_use", "parameter", "summed", "units_free", "units_in_use", "value",
     "BUDGET", "REPORT_BYTES", "TRACE_BYTES", "WORK_NUMBERS",
@@ -53,6 +55,10 @@ _MOST_LENT = _RECORD_BYTES * 100_000_000
 # The most bytes of a count or a time of a tape that is drawn, and the most times of a list.
 _TIME_BYTES = 3
 _MOST_TIMES = 65_535
+
+# The most lists of a tape, and the last stream.
+_MOST_LISTS = 16
+_LAST_STREAM = 511
 
 # What the reader of records answers at or past the end.
 _NO_MORE = 30
@@ -142,6 +148,46 @@ def make_tape(stream: int, lists: Sequence[Tuple[Distribution, int]]) -> bytes:
     data, written = _buffer(ctypes.c_uint8, room), _buffer(ctypes.c_uint64, 1)
     _accepted(_library().covrith_make_tape(stream, given, len(numbers), values, len(doubles), data, room, written))
     return ctypes.string_at(data, written[0])
+
+
+def draw_tape(lists: Sequence[Drawn], tape_number: int = 0) -> bytes:
+    """The tape that `covrith tape --stream N` draws: lists with a stream of their own by a call each, the others together.
+
+    With N a list draws from its stream, or from stream 0, plus N times one more than the largest that a list names. ValueError where two
+    lists name one stream or one names stream 0, the tape's own; `Refused` as by `make_tape`.
+    """
+    number = whole("tape_number", tape_number, 0, 2**32 - 1)
+    for place, one in enumerate(sequence("lists", lists), 1):
+        if not isinstance(one, Drawn):
+            raise TypeError(f"list {place} of the tape: expected a Drawn, got {type(one).__name__}")
+    if len(lists) > _MOST_LISTS:
+        raise Refused(Refusal.NOT_DISTRIBUTION)
+    named = [whole("stream of a list", one.stream, 1, _LAST_STREAM) for one in lists if one.stream is not None]
+    if len(set(named)) < len(named):
+        raise ValueError("two lists name one stream, and would get the same draws")
+    first = number * (1 + max(named, default=0))
+    together = iter(_lists(make_tape(first, [(one.distribution, one.count) for one in lists if one.stream is None])))
+    drawn = []
+    for one in lists:
+        alone = () if one.stream is None else _lists(make_tape(first + one.stream, [(one.distribution, one.count)]))
+        factor = whole("times", one.times, 1, 10**10)
+        drawn.append([factor * time for time in (alone[0] if alone else next(together))])
+    return tape(drawn)
+
+
+def _lists(data: bytes) -> List[List[int]]:
+    """The lists of a tape that the engine wrote."""
+    numbers, number = [], 0
+    for byte in data:
+        number = number << 7 | byte & 0x7F
+        if byte < 0x80:
+            numbers.append(number)
+            number = 0
+    lists, at = [], 0
+    while at < len(numbers):
+        lists.append(numbers[at + 1 : at + 1 + numbers[at]])
+        at += 1 + numbers[at]
+    return lists
 
 
 # ---------------------------------------------------------------------------------------------------------------------------

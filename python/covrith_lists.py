@@ -250,6 +250,16 @@ class Curve:
 Distribution = Union[Fixed, Spread, Curve]
 
 
+@dataclass(frozen=True)
+class Drawn:
+    """A list that `draw_tape` draws: how many times, from a stream of its own if it has one, each multiplied."""
+
+    distribution: Distribution
+    count: int
+    stream: Optional[int] = None
+    times: int = 1
+
+
 def tape_arguments(lists: Sequence[Tuple[Distribution, int]]) -> Tuple[List[int], List[float]]:
     """The numbers and doubles of a call, as include/covrith.h describes them."""
     numbers: List[int] = []

@@ -25,7 +25,7 @@ class Page(unittest.TestCase):
             with contextlib.redirect_stdout(output):
                 exec(compile(text, str(PAGE), "exec"), names)
             printed = output.getvalue()
-        self.assertEqual((shown, printed), (3, ""))
+        self.assertEqual((shown, printed), (4, ""))
 
 
 if __name__ == "__main__":

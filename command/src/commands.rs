@@ -29,7 +29,6 @@ use std::sync::mpsc;
 use std::time::{Duration, Instant};
 
 pub use archive::archive;
-pub use tape::list as drawn_list;
 
 /// A command: its name, the words behind it, what it does in a line, its help and its options.
 pub struct Command {

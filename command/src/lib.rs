@@ -6,6 +6,8 @@ pub mod catalogue;
 pub mod commands;
 pub mod contents;
 pub mod date;
+pub mod drawing;
+pub mod drawn;
 pub mod durable;
 pub mod ends;
 pub mod execute;

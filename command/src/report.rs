@@ -4,7 +4,7 @@ use crate::ends;
 use crate::execute::Lent;
 use crate::study::Study;
 use crate::table::{mean, percent, Table};
-use crate::walk::{Birth, Life, Walk};
+use crate::walk::{Birth, Life, Missed, Walk};
 use crate::words;
 use engine::{Queue, Report, Run, Server};
 use std::collections::BTreeMap;
@@ -28,6 +28,11 @@ pub fn report(study: &Study, run: &Run, walk: &Walk, lent: Lent) -> Vec<String> 
             lines.push(String::new());
             lines.extend(table.lines());
         }
+    }
+    if !study.times.is_empty() {
+        lines.push(String::new());
+        lines.extend(lists(study, walk).lines());
+        lines.extend(used_up(study, walk, o.clock));
     }
     lines.push(String::new());
     lines.extend(blocks(study, walk).lines());
@@ -126,6 +131,37 @@ fn servers(study: &Study, report: &Report) -> [Table; 3] {
         queues.row(named(name, queue_cells(queue, clock)));
     }
     [facilities, storages, queues]
+}
+
+/// How many times each list has, how many were used and how many are left.
+fn lists(study: &Study, walk: &Walk) -> Table {
+    let mut table = Table::new(&["list", ">times", ">used", ">left"]);
+    for ((name, times), left) in study.names.lists.iter().zip(&study.times).zip(&walk.left) {
+        table.row(vec![
+            name.clone(),
+            times.to_string(),
+            (times - left).to_string(),
+            left.to_string(),
+        ]);
+    }
+    table
+}
+
+/// Where a GENERATE found its list used up before the end, so that nobody came there any more.
+fn used_up(study: &Study, walk: &Walk, end: u64) -> Vec<String> {
+    let mut lines = Vec::new();
+    let before = |missed: &&Missed| missed.clock != Some(end);
+    for missed in walk.missed.iter().filter(before) {
+        let name = &study.names.lists[missed.list];
+        let block = format!("block {}, {}", missed.block, study.statement(missed.block));
+        lines.push(match missed.clock {
+            Some(clock) => {
+                format!("list {name} was used up at clock {clock}; none came after that at {block}")
+            }
+            None => format!("list {name} had no time at the start; none came at {block}"),
+        });
+    }
+    lines
 }
 
 /// The listing with what each block had.

@@ -244,6 +244,7 @@ pub fn load(folder: &Path, notes: &mut Vec<String>) -> Done<Study> {
     tape_side.store(&tape.bytes, notes);
     notes.extend(model_side.differs(model.source.is_some()));
     notes.extend(tape_side.differs(tape.text.is_some()));
+    notes.extend(crate::drawn::changed(folder, &tape.bytes));
     let mut study = Study::of_bytes(folder, model.bytes, tape.bytes)?;
     if let Some(source) = &model.source {
         study.names = Names::of(source);

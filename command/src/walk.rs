@@ -27,8 +27,19 @@ pub enum Birth {
 /// Follows which transactions come to be: each record of a GENERATE whose list has a time left makes one, each SPLIT its copies.
 pub struct Births<'a> {
     study: &'a Study,
+    /// Times of each list that are left.
     left: Vec<u64>,
+    /// Where a GENERATE found its list used up.
+    missed: Vec<Missed>,
     pub made: u64,
+}
+
+/// A GENERATE that found its list used up: at the start, or when one passed it at this clock.
+#[derive(Clone, Copy, Debug, PartialEq, Eq)]
+pub struct Missed {
+    pub list: usize,
+    pub block: u64,
+    pub clock: Option<u64>,
 }
 
 impl<'a> Births<'a> {
@@ -37,22 +48,41 @@ impl<'a> Births<'a> {
         let mut births = Births {
             study,
             left: study.times.clone(),
+            missed: Vec::new(),
             made: 0,
         };
         for (i, block) in study.decoded.blocks.iter().enumerate() {
-            if block.kind == GENERATE && births.draw(block) {
+            let number = i as u64 + 1;
+            if block.kind == GENERATE && births.generate(block, number, None) {
                 births.made += 1;
-                let block = i as u64 + 1;
-                born(births.made, Birth::Arrival { clock: 0, block });
+                born(
+                    births.made,
+                    Birth::Arrival {
+                        clock: 0,
+                        block: number,
+                    },
+                );
             }
         }
         births
     }
 
+    /// Uses up a time for the next arrival, or notes that there is none.
+    fn generate(&mut self, block: &Block, number: u64, clock: Option<u64>) -> bool {
+        let drawn = self.draw(block);
+        if let (false, Some(list)) = (drawn, list_of(block)) {
+            self.missed.push(Missed {
+                list,
+                block: number,
+                clock,
+            });
+        }
+        drawn
+    }
+
     /// Uses up a time of the block's list, if it has one left.
     fn draw(&mut self, block: &Block) -> bool {
-        let list = number(block, 'l').and_then(|l| self.left.get_mut((l as usize).wrapping_sub(1)));
-        match list {
+        match list_of(block).and_then(|list| self.left.get_mut(list)) {
             Some(left) if *left > 0 => {
                 *left -= 1;
                 true
@@ -68,7 +98,7 @@ impl<'a> Births<'a> {
         }
         let block = self.study.block(record.block)?;
         let (count, birth) = match block.kind {
-            GENERATE if self.draw(block) => {
+            GENERATE if self.generate(block, record.block, Some(record.clock)) => {
                 let birth = Birth::Arrival {
                     clock: record.clock,
                     block: record.block,
@@ -94,6 +124,11 @@ impl<'a> Births<'a> {
         self.made += count;
         Some((first..self.made + 1, birth))
     }
+}
+
+/// The list that a block names, from 0.
+fn list_of(block: &Block) -> Option<usize> {
+    number(block, 'l').map(|list| (list as usize).wrapping_sub(1))
 }
 
 fn number(block: &Block, letter: char) -> Option<u32> {
@@ -166,6 +201,9 @@ pub struct Walk {
     /// The living, by number.
     pub living: BTreeMap<u64, Life>,
     pub holders: Holders,
+    /// Times of each list that were not used.
+    pub left: Vec<u64>,
+    pub missed: Vec<Missed>,
 }
 
 /// The facility that a block names.
@@ -184,6 +222,8 @@ pub fn walk(study: &Study, run: &Run) -> Walk {
         last: None,
         living: living.map(|l| (l.transaction, Life::at(l.place))).collect(),
         holders: Holders::default(),
+        left: Vec::new(),
+        missed: Vec::new(),
     };
     let mut births = Births::start(study, |number, birth| {
         if let Some(life) = walk.living.get_mut(&number) {
@@ -212,5 +252,7 @@ pub fn walk(study: &Study, run: &Run) -> Walk {
         walk.last = Some(record);
     }
     walk.made = births.made;
+    walk.left = births.left;
+    walk.missed = births.missed;
     walk
 }

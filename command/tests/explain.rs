@@ -212,9 +212,10 @@ fn distributions() {
         };
         let count = if k % 5 == 0 { *random.pick(COUNTS) } else { 2 };
         let text = format!("l: {form}, {count} times");
-        let list = &modeltext::distribution::read(&text).unwrap()[0];
+        let none = |_: &str| Err("no file".to_string());
+        let list = &modeltext::distribution::read(&text, &none).unwrap()[0];
         let told = explain::distribution(list);
-        let refused = engine::make_tape(0, &[command::commands::drawn_list(list)]).is_err();
+        let refused = engine::make_tape(0, &[command::drawing::list(list)]).is_err();
         assert_eq!(told.is_some(), refused, "{text}: {told:?}");
         let rule = told.map_or("taken", |fault| {
             let known = RULES.iter().find(|rule| fault.what.contains(**rule));
@@ -231,7 +232,6 @@ const RULES: &[&str] = &[
     "a time of a distribution is at most",
     "a time of a distribution is a multiple",
     "u of a distribution is at most",
-    "u of a distribution is a multiple",
     "the mean of a spread",
     "is more than the mean",
     "a curve has 2 to 24 points",

@@ -84,6 +84,11 @@ fn tapes() {
 }
 
 #[test]
+fn findings() {
+    session("findings");
+}
+
+#[test]
 fn joins() {
     session("joins");
 }

@@ -1,12 +1,14 @@
 //! Text form of models and tapes: text to bytes and bytes to text. `docs/TEXT.md` has the syntax.
 
 pub mod distribution;
+pub mod fixed;
 pub mod model;
 pub mod names;
 pub mod number;
 pub mod read;
 pub mod reader;
 pub mod scan;
+pub mod shape;
 pub mod show;
 pub mod tape;
 pub mod words;
@@ -30,6 +32,8 @@ impl Position {
 /// What is wrong with a text, where, and what to write instead.
 #[derive(Clone, Debug, PartialEq, Eq)]
 pub struct Fault {
+    /// Where it stands in another file than the text that was read.
+    pub file: Option<String>,
     pub at: Position,
     pub what: String,
     pub remedy: String,
@@ -38,6 +42,7 @@ pub struct Fault {
 impl Fault {
     pub fn at(at: Position, what: impl Into<String>, remedy: impl Into<String>) -> Fault {
         Fault {
+            file: None,
             at,
             what: what.into(),
             remedy: remedy.into(),

@@ -103,7 +103,16 @@ fn assemble_folder(folder: &str) -> Result<(), String> {
 
 /// Both with commas between, `-` for none, as `reference/` reads them.
 fn show_arguments(from: &str) -> Result<(), String> {
-    let lists = distribution::read(&text_of(from)?).map_err(|faults| told(from, &faults))?;
+    let beside = |name: &str| {
+        let path = std::path::Path::new(from).with_file_name(name);
+        std::fs::read_to_string(path).map_err(|e| e.to_string())
+    };
+    let told = |faults: Vec<Fault>| {
+        let path = |fault: &Fault| fault.file.clone().unwrap_or(from.to_string());
+        let lines: Vec<String> = faults.iter().map(|f| format!("{}:{f}", path(f))).collect();
+        lines.join("\n")
+    };
+    let lists = distribution::read(&text_of(from)?, &beside).map_err(told)?;
     let (numbers, doubles) = distribution::arguments(&lists);
     let numbers: Vec<String> = numbers.iter().map(u32::to_string).collect();
     let doubles: Vec<String> = doubles

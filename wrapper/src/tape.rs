@@ -2,6 +2,7 @@
 
 use crate::trace::accepted;
 use crate::{sys, Refusal};
+use modeltext::distribution::{self, Form};
 
 /// Where the times of a list come from.
 #[derive(Clone, Debug, PartialEq)]
@@ -12,6 +13,50 @@ pub enum Distribution {
     Spread { mean: f64, half: f64 },
     /// A curve through points of u and time.
     Curve(Vec<(f64, f64)>),
+}
+
+impl Distribution {
+    /// A distribution by its name, as `docs/TEXT.md` has it: the curve that stands for it is the same on every machine.
+    ///
+    /// ```
+    /// use covrith::{make_tape, Distribution, List};
+    /// let arrivals = Distribution::named("exponential 20").unwrap();
+    /// assert_eq!(make_tape(3, &[List { distribution: arrivals, count: 5 }]), Ok(vec![5, 3, 0, 11, 6, 7]));
+    /// let wrong = Distribution::named("normal 20 12").unwrap_err();
+    /// assert!(wrong.contains("at most half its mean"));
+    /// ```
+    pub fn named(words: &str) -> Result<Distribution, String> {
+        let none = |_: &str| Err("times are given by Distribution::measured".to_string());
+        let lists = distribution::read(&format!("l: {words}, 0 times"), &none);
+        match lists.map(|lists| lists.into_iter().map(|list| list.form).next()) {
+            Ok(Some(form)) => Ok(form.into()),
+            Ok(None) => Err("a distribution is expected".to_string()),
+            Err(faults) => Err(faults
+                .iter()
+                .map(|fault| fault.what.clone())
+                .collect::<Vec<_>>()
+                .join("; ")),
+        }
+    }
+
+    /// As measured times have it, decimal numbers to a line.
+    pub fn measured(times: &str) -> Result<Distribution, String> {
+        let open = |_: &str| Ok(times.to_string());
+        match distribution::read("l: empirical times, 0 times", &open) {
+            Ok(mut lists) => Ok(lists.remove(0).form.into()),
+            Err(faults) => Err(faults[0].to_string()),
+        }
+    }
+}
+
+impl From<Form> for Distribution {
+    fn from(form: Form) -> Distribution {
+        match form {
+            Form::Fixed(time) => Distribution::Fixed(time),
+            Form::Spread(mean, half) => Distribution::Spread { mean, half },
+            Form::Curve(points) => Distribution::Curve(points),
+        }
+    }
 }
 
 /// A list of a tape: its distribution and how many times are drawn.

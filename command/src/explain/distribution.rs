@@ -6,7 +6,12 @@ use modeltext::{Fault, Position};
 
 /// What the tape maker refuses of a list, and where.
 pub fn distribution(list: &Drawn) -> Option<Fault> {
-    counted(list).and_then(|()| formed(list)).err()
+    // the curve of a name is always one that the tape maker takes
+    let formed = |()| match list.shape {
+        Some(_) => Ok(()),
+        None => formed(list),
+    };
+    counted(list).and_then(formed).err()
 }
 
 type Asked = Result<(), Fault>;
@@ -77,7 +82,12 @@ fn curve(points: &[(f64, f64)], list: &Drawn) -> Asked {
     )?;
     let mut before: Option<(f64, f64)> = None;
     for ((u, t), places) in points.iter().zip(list.places.chunks(2)) {
-        parts(*u, limits::DRAW_PARTS, "u", 1, places[0])?;
+        ask(
+            *u <= 1.0,
+            places[0],
+            || format!("u of a distribution is at most 1, and here {u}"),
+            || "write a number from 0 to 1".to_string(),
+        )?;
         time(*t, places[1])?;
         let Some((u_before, t_before)) = before.replace((*u, *t)) else {
             ask(
@@ -110,16 +120,13 @@ fn curve(points: &[(f64, f64)], list: &Drawn) -> Asked {
     )
 }
 
+/// A multiple of its part of one, from 0 to the longest.
 fn time(value: f64, at: Position) -> Asked {
-    parts(value, limits::TIME_PARTS, "a time", limits::DRAWN_TIME, at)
-}
-
-/// A multiple of that part of one, from 0 to `most`.
-fn parts(value: f64, parts: u64, what: &str, most: u64, at: Position) -> Asked {
+    let (parts, most) = (limits::TIME_PARTS, limits::DRAWN_TIME);
     ask(
         value <= most as f64,
         at,
-        || format!("{what} of a distribution is at most {most}, and here {value}"),
+        || format!("a time of a distribution is at most {most}, and here {value}"),
         || format!("write a number from 0 to {most}"),
     )?;
     let scaled = value * parts as f64;
@@ -127,7 +134,7 @@ fn parts(value: f64, parts: u64, what: &str, most: u64, at: Position) -> Asked {
     ask(
         scaled.fract() == 0.0,
         at,
-        || format!("{what} of a distribution is a multiple of 1/{parts}, and {value} is none"),
+        || format!("a time of a distribution is a multiple of 1/{parts}, and {value} is none"),
         || {
             format!(
                 "write {} or {}",
