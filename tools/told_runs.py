@@ -224,13 +224,11 @@ def check_python_study():
     """what docs/PYTHON.md says of its distributions, and of its measured times"""
     path = root / "docs/PYTHON.md"
     text = path.read_text()
-    spreads = [tuple(map(float, pair)) for pair in re.findall(r"covrith\.Spread\(([\d.]+), ([\d.]+)\)", text)]
-    (come, tow, unload) = [(int(mean - half), int(mean + half) - 1) for mean, half in spreads]
+    come, tow, unload = [tuple(map(int, pair)) for pair in re.findall(r"covrith\.uniform\((\d+), (\d+)\)", text)]
     middle = [sum(one) // 2 for one in (come, tow, unload)]
     says(
         path,
         f"Ships come every {come[0]} to {come[1]} minutes. Each takes a berth, is towed in for {tow[0]} to {tow[1]} minutes, unloads for {unload[0]} to {unload[1]} ",
-        f"{spreads[0][0]} with a half-width of {spreads[0][1]} gives {come[0]} to {come[1]},",
         f"ships come every {middle[0]} minutes and hold a berth for {middle[2] + 2 * middle[1]}.",
     )
     (c, python, more), (c_all, python_all, more_all) = ([number(cell) for cell in row[1:]] for row in table(text, "", "C"))
