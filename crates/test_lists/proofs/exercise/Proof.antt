@@ -3,4 +3,6 @@ use Rattle.machine.specs.All.{arith}
 use Rattle.test_lists.proofs.exercise as f
 
 pub exercise-spec : {M : Type 1} → f.Statement.statement M
-exercise-spec = f.Tie.close (f.Tie.spec (omega arith) (omega arith) (omega arith) (omega arith) (omega arith) (omega arith) (omega arith) (omega arith) (λ c. omega arith))
+exercise-spec =
+    f.Tie.close (f.Tie.spec (omega arith) (omega arith) (omega arith) (omega arith) (omega arith) (omega arith) (omega arith) (omega arith)
+    (λ c. omega arith))

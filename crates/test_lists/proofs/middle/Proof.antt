@@ -5,4 +5,5 @@ use Rattle.test_lists.proofs.middle as f
 pub middle-spec : {M : Type 1} → f.Statement.statement M
 middle-spec =
     f.Tie.close
-    (f.Tie.spec (omega arith) (omega arith) (omega arith) (omega arith) (omega arith) (omega arith) (λ c. omega arith) (omega arith) (omega arith) (omega arith) (omega arith) (λ c. omega arith))
+    (f.Tie.spec (omega arith) (omega arith) (omega arith) (omega arith) (omega arith) (omega arith) (λ c. omega arith) (omega arith)
+    (omega arith) (omega arith) (omega arith) (λ c. omega arith))

@@ -1,4 +1,5 @@
--- `bytes_of` stays within both slices. The invariant: n is at most the room, which keeps its length. The measure is what is left of the text.
+-- `bytes_of` stays within both slices. The invariant: n is at most the room, which keeps its length. The measure is what is left of the
+-- text.
 use Rattle.machine.specs.All.{_≤_, _-_, _≡_, arith, length, length-set, needs}
 use Rattle.test_refusals.proofs.bytes_of as f
 
