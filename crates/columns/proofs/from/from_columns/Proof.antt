@@ -7,11 +7,35 @@ use Rattle.columns.proofs.from.from_columns as f
 enum-told : f.Tie.Need-enum-told
 enum-told c = search needs
 
-returns-3 : f.Tie.Need-returns-3
-returns-3 c =
-    let b = c .before .before .before .before in
-    let room = b .if1 .left in
-    let a = from-bytes _ _ _ _ (surveyed-taken _ _ (b .before .before .before .before .survey-columns .ensures) (b .before .before .count .given .1)) _ room _ (c .before .before .write-trace .ensures) in
+returns-no-taken : f.Tie.Need-returns
+returns-no-taken c =
+    let at-survey-columns : f.Tie.After-survey-columns = search in
+    let a = from-51 _ _ (surveyed-none _ _ (at-survey-columns .survey-columns .ensures) (c .enum-told .given .1)) in
+    (a .0, (a .1, λ n h. absurd (refused-bytes h)))
+
+returns-len-below-len : f.Tie.Need-returns-2
+returns-len-below-len c =
+    let at-count : f.Tie.After-count = search in
+    let at-survey-columns : f.Tie.After-survey-columns = search in
+    let a = from-52 _ _ _ _ (surveyed-taken _ _ (at-survey-columns .survey-columns .ensures) (at-count .count .given .1)) _
+    (c .if1 .taken) in
+    (a .0, (a .1, λ n h. absurd (refused-bytes h)))
+
+write-trace-requires : f.Tie.Need-write-trace-requires
+write-trace-requires c κs =
+    let at-count : f.Tie.After-count = search in
+    let at-survey-columns : f.Tie.After-survey-columns = search in
+    omega (arith, (surveyed-taken _ _ (at-survey-columns .survey-columns .ensures) (at-count .count .given .1)) .clock)
+
+returns-last : f.Tie.Need-returns-3
+returns-last c =
+    let at-write-trace : f.Tie.After-write-trace = search in
+    let at-else1 : f.Tie.Else1 = search in
+    let at-count : f.Tie.After-count = search in
+    let at-survey-columns : f.Tie.After-survey-columns = search in
+    let room = at-else1 .if1 .left in
+    let a = from-bytes _ _ _ _ (surveyed-taken _ _ (at-survey-columns .survey-columns .ensures) (at-count .count .given .1)) _ room _
+    (at-write-trace .write-trace .ensures) in
     (a .0, (a .1, λ n h. bytes-count h refl room .1))
 
 pub from-columns-spec : {M : Type 1} → f.Statement.statement M
@@ -21,8 +45,8 @@ from-columns-spec =
     (search needs)
     (search needs)
     enum-told
-    (λ c. let a = from-51 _ _ (surveyed-none _ _ (c .before .before .survey-columns .ensures) (c .enum-told .given .1)) in (a .0, (a .1, λ n h. absurd (refused-bytes h))))
-    (λ c. let a = from-52 _ _ _ _ (surveyed-taken _ _ (c .before .before .before .before .survey-columns .ensures) (c .before .before .count .given .1)) _ (c .if1 .taken) in (a .0, (a .1, λ n h. absurd (refused-bytes h))))
-    (λ c κs. omega (arith, (surveyed-taken _ _ (c .before .before .before .before .before .survey-columns .ensures) (c .before .before .before .count .given .1)) .clock))
+    returns-no-taken
+    returns-len-below-len
+    write-trace-requires
     (search needs)
-    returns-3)
+    returns-last)

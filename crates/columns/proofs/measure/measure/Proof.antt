@@ -1,5 +1,5 @@
--- `columns::measure::measure` meets its contract. The loop's invariant: with what is still to come, the totals are those of the whole trace. The
--- measure is how many records more there may be.
+-- `columns::measure::measure` meets its contract. The loop's invariant: with what is still to come, the totals are those of the whole
+-- trace. The measure is how many records more there may be.
 use Rattle.machine.specs.All.{_-_, _≡_, refl, sym, _∙_, arith, needs}
 use Rattle.columns_laws.specs.{Columns.maxRecords, Walks.Short, Walks.atStart}
 use Rattle.columns_laws.proofs.Measuring.{Rest, step-refused, step-taken, step-end}
@@ -11,18 +11,46 @@ Inv-loop s count₀ t₀ count t = Short count t × (Rest s count t ≡ Rest s 0
 abbrev μ-loop : f.Tie.MeasureT-loop
 μ-loop s count₀ t₀ count t = maxRecords - count
 
+loop-holds : f.Tie.Need-loop-holds Inv-loop μ-loop
+loop-holds c = (
+  record { few = omega arith; differences = omega arith; transactions = omega arith; blocks = omega arith; outcomes = omega arith },
+  refl,
+)
+
+measure-record-requires : f.Tie.Need-measure-record-requires Inv-loop μ-loop
+measure-record-requires c κs =
+    let at-loop : f.Tie.At-loop Inv-loop μ-loop = search in
+    at-loop .loop .inv .0
+
 enum-told : f.Tie.Need-enum-told Inv-loop μ-loop
 enum-told c = search needs
 
-returns : f.Tie.Need-returns Inv-loop μ-loop
-returns c =
-    let b = c .before .before in
-    step-refused _ _ _ (b .before .before .before .loop .inv .0) (b .before .if1 .taken) (sym (c .enum-told .given .1) ∙ b .measure-record .ensures) ∙ b .before .before .before .loop .inv .1
+returns-refused : f.Tie.Need-returns Inv-loop μ-loop
+returns-refused c =
+    let at-measure-record : f.Tie.After-measure-record Inv-loop μ-loop = search in
+    let at-then1 : f.Tie.Then1 Inv-loop μ-loop = search in
+    let at-loop : f.Tie.At-loop Inv-loop μ-loop = search in
+    step-refused _ _ _ (at-loop .loop .inv .0) (at-then1 .if1 .taken)
+    (sym (c .enum-told .given .1) ∙ at-measure-record .measure-record .ensures) ∙ at-loop .loop .inv .1
+
+loop-less : f.Tie.Need-loop-less Inv-loop μ-loop
+loop-less c =
+    let at-measure-record : f.Tie.After-measure-record Inv-loop μ-loop = search in
+    let at-loop : f.Tie.At-loop Inv-loop μ-loop = search in
+    let st = step-taken _ _ _ (at-loop .loop .inv .0) _ _ (sym (c .before .n .given .1) ∙ at-measure-record .measure-record .ensures) in
+    omega (arith, st .room, st .count-more)
 
 loop-again : f.Tie.Need-loop-again Inv-loop μ-loop
 loop-again c =
-    let b = c .before .before .before in
-    let st = step-taken _ _ _ (b .before .before .before .loop .inv .0) _ _ (sym (c .before .n .given .1) ∙ b .measure-record .ensures) in (st .short, st .same ∙ b .before .before .before .loop .inv .1)
+    let at-measure-record : f.Tie.After-measure-record Inv-loop μ-loop = search in
+    let at-loop : f.Tie.At-loop Inv-loop μ-loop = search in
+    let st = step-taken _ _ _ (at-loop .loop .inv .0) _ _ (sym (c .before .n .given .1) ∙ at-measure-record .measure-record .ensures) in
+    (st .short, st .same ∙ at-loop .loop .inv .1)
+
+returns-last : f.Tie.Need-returns-2 Inv-loop μ-loop
+returns-last c =
+    let at-loop : f.Tie.At-loop Inv-loop μ-loop = search in
+    step-end _ _ _ (at-loop .loop .inv .0) (c .if1 .left) ∙ at-loop .loop .inv .1
 
 pub measure-spec : {M : Type 1} → f.Statement.statement M
 measure-spec =
@@ -30,11 +58,11 @@ measure-spec =
     (f.Tie.spec
     Inv-loop
     μ-loop
-    (λ c. (record { few = omega arith; differences = omega arith; transactions = omega arith; blocks = omega arith; outcomes = omega arith }, refl))
-    (λ c κs. c .before .before .loop .inv .0)
+    loop-holds
+    measure-record-requires
     enum-told
-    returns
+    returns-refused
     (search needs)
-    (λ c. let st = step-taken _ _ _ (c .before .before .before .before .before .before .loop .inv .0) _ _ (sym (c .before .n .given .1) ∙ c .before .before .before .measure-record .ensures) in omega (arith, st .room, st .count-more))
+    loop-less
     loop-again
-    (λ c. step-end _ _ _ (c .before .before .loop .inv .0) (c .if1 .left) ∙ c .before .before .loop .inv .1))
+    returns-last)

@@ -9,32 +9,76 @@ use Rattle.columns.proofs.to.to_columns as f
 enum-told : f.Tie.Need-enum-told
 enum-told c = search needs
 
+returns-no-taken : f.Tie.Need-returns
+returns-no-taken c =
+    let at-measure : f.Tie.After-measure = search in
+    let a = to-51 _ _ (measured-none _ (ap totalsOf (sym (c .enum-told .given .1)) ∙ at-measure .measure .ensures)) in
+    (a .0, (a .1, λ n h. absurd (refused-bytes h)))
+
+add-transactions : f.Tie.Need-add-transactions
+add-transactions c =
+    let at-count : f.Tie.After-count = search in
+    let at-measure : f.Tie.After-measure = search in
+    omega (
+      arith,
+      measured-fits _ _ _ (measured-some _ _ _ (ap totalsOf (sym (at-count .count .given .1)) ∙ at-measure .measure .ensures)),
+      nine _ _ (c .before .number-len .ensures),
+    )
+
 add-blocks : f.Tie.Need-add-blocks
 add-blocks c =
-    let b = c .before .before in
-    omega (arith, measured-fits _ _ _ (measured-some _ _ _ (ap totalsOf (sym (b .before .before .count .given .1)) ∙ b .before .before .before .before .measure .ensures)), nine _ _ (b .number-len .ensures))
+    let at-number-len : f.Tie.After-number-len = search in
+    let at-count : f.Tie.After-count = search in
+    let at-measure : f.Tie.After-measure = search in
+    omega (
+      arith,
+      measured-fits _ _ _ (measured-some _ _ _ (ap totalsOf (sym (at-count .count .given .1)) ∙ at-measure .measure .ensures)),
+      nine _ _ (at-number-len .number-len .ensures),
+    )
 
 add-outcomes : f.Tie.Need-add-outcomes
 add-outcomes c =
-    let b = c .before .before .before in
-    omega (arith, measured-fits _ _ _ (measured-some _ _ _ (ap totalsOf (sym (b .before .before .count .given .1)) ∙ b .before .before .before .before .measure .ensures)), nine _ _ (b .number-len .ensures))
+    let at-number-len : f.Tie.After-number-len = search in
+    let at-count : f.Tie.After-count = search in
+    let at-measure : f.Tie.After-measure = search in
+    omega (
+      arith,
+      measured-fits _ _ _ (measured-some _ _ _ (ap totalsOf (sym (at-count .count .given .1)) ∙ at-measure .measure .ensures)),
+      nine _ _ (at-number-len .number-len .ensures),
+    )
 
 add-len : f.Tie.Need-add-len
 add-len c =
-    let b = c .before .before .before .before in
-    omega (arith, measured-fits _ _ _ (measured-some _ _ _ (ap totalsOf (sym (b .before .before .count .given .1)) ∙ b .before .before .before .before .measure .ensures)), nine _ _ (b .number-len .ensures))
+    let at-number-len : f.Tie.After-number-len = search in
+    let at-count : f.Tie.After-count = search in
+    let at-measure : f.Tie.After-measure = search in
+    omega (
+      arith,
+      measured-fits _ _ _ (measured-some _ _ _ (ap totalsOf (sym (at-count .count .given .1)) ∙ at-measure .measure .ensures)),
+      nine _ _ (at-number-len .number-len .ensures),
+    )
 
-returns-2 : f.Tie.Need-returns-2
-returns-2 c =
-    let b = c .before .before .before .before .before in
-    let a = to-52 _ _ _ (measured-some _ _ _ (ap totalsOf (sym (b .before .before .count .given .1)) ∙ b .before .before .before .before .measure .ensures)) _ (b .number-len .ensures) _ (c .if1 .taken) in (a .0, (a .1, λ n h. absurd (refused-bytes h)))
+returns-len-below-len : f.Tie.Need-returns-2
+returns-len-below-len c =
+    let at-number-len : f.Tie.After-number-len = search in
+    let at-count : f.Tie.After-count = search in
+    let at-measure : f.Tie.After-measure = search in
+    let a = to-52 _ _ _ (measured-some _ _ _ (ap totalsOf (sym (at-count .count .given .1)) ∙ at-measure .measure .ensures)) _
+    (at-number-len .number-len .ensures) _ (c .if1 .taken) in
+    (a .0, (a .1, λ n h. absurd (refused-bytes h)))
 
-returns-3 : f.Tie.Need-returns-3
-returns-3 c =
-    let d = c .before .before .before .before .before .before in
-    let b = d .before .before .before .before .before .before .before in
-    let room = d .before .before .if1 .left in
-    let a = to-bytes _ _ _ (measured-some _ _ _ (ap totalsOf (sym (b .before .before .count .given .1)) ∙ b .before .before .before .before .measure .ensures)) _ (b .number-len .ensures) _ room _ _ _ (d .write-number .ensures) (c .before .before .write-columns .ensures) in
+returns-last : f.Tie.Need-returns-3
+returns-last c =
+    let at-write-columns : f.Tie.After-write-columns = search in
+    let at-write-number : f.Tie.After-write-number = search in
+    let at-else1 : f.Tie.Else1 = search in
+    let at-number-len : f.Tie.After-number-len = search in
+    let at-count : f.Tie.After-count = search in
+    let at-measure : f.Tie.After-measure = search in
+    let room = at-else1 .if1 .left in
+    let a = to-bytes _ _ _ (measured-some _ _ _ (ap totalsOf (sym (at-count .count .given .1)) ∙ at-measure .measure .ensures)) _
+    (at-number-len .number-len .ensures) _ room _ _ _ (at-write-number .write-number .ensures)
+    (at-write-columns .write-columns .ensures) in
     (a .0, (a .1, λ n h. bytes-count h refl room .1))
 
 pub to-columns-spec : {M : Type 1} → f.Statement.statement M
@@ -44,14 +88,14 @@ to-columns-spec =
     (search needs)
     (search needs)
     enum-told
-    (λ c. let a = to-51 _ _ (measured-none _ (ap totalsOf (sym (c .enum-told .given .1)) ∙ c .before .before .measure .ensures)) in (a .0, (a .1, λ n h. absurd (refused-bytes h))))
+    returns-no-taken
     (search needs)
-    (λ c. omega (arith, measured-fits _ _ _ (measured-some _ _ _ (ap totalsOf (sym (c .before .before .before .count .given .1)) ∙ c .before .before .before .before .before .measure .ensures)), nine _ _ (c .before .number-len .ensures)))
+    add-transactions
     add-blocks
     add-outcomes
     add-len
-    returns-2
+    returns-len-below-len
     (search needs)
     (search needs)
     (search needs)
-    returns-3)
+    returns-last)
