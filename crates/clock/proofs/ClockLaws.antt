@@ -4,7 +4,7 @@ use Rattle.machine.specs.Turn as Machine
 use Rattle.machine.proofs.{decoding.Proper.Proper, lists.Sums.sum-length, lists.Sums.sum-insert, lists.Sums.sum-those}
 use Rattle.layout.specs.All.{clockMoves}
 use Rattle.rows_laws.specs.All.{rel, fel, first, Arrived, arrive, arrivals, eventAt, update}
-use Rattle.rows_laws.proofs.{Take.Head, Take.nobody, Take.somebody, Laws.Arrives, Laws.head-fel-shows, Laws.arrive-shows}
+use Rattle.rows_laws.proofs.{chains.TakeFirst.Head, chains.TakeFirst.nobody, chains.TakeFirst.somebody, Laws.Arrives, Laws.head-fel-shows, Laws.arrive-shows}
 use Rattle.state.specs.declared.scalars.Scalars.{Scalars}
 use Rattle.state.specs.All.{putClock, putSerial, Rows, rowsOf, listsIn, listsOf, Listing, Tallying, Counting, Stands}
 use Rattle.state.proofs.{Sane.Sane, Measured.clocked, Measured.moved-clock, ListsOf.lists-set-rel}

@@ -1,7 +1,7 @@
 -- A change of REL and the FEL alone: how many rows stand on lists, and the relation to the state that has these lists.
 use Rattle.machine.specs.All.{ℕ, zero, suc, _+_, _-_, _≤_, _<_, _≡_, refl, ap, _≢_, List, Option, arith, eqb-true, eqb-false, eq-eqb, ne-eqb, eqb, length, Transaction, Event, State, Bool, true, false}
 use Rattle.rows_laws.specs.All.{rel, update, sumTo, loose, onLists, Shows}
-use Rattle.rows_laws.proofs.{Ordering.shows-ext, Population.population}
+use Rattle.rows_laws.proofs.{order.StayInOrder.shows-ext, counting.Population.population}
 use Rattle.state.specs.All.{listsIn, listsOf, Moving, Listing}
 
 -- ---- Lengths summed over the lists

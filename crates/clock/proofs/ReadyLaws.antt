@@ -2,7 +2,7 @@
 use Rattle.machine.specs.All.{ℕ, suc, _≤_, _<_, _≡_, refl, sym, ap, subst, List, _∷_, Option, none, some, arith, lt-ltb, le-ltb, length, drop, Transaction, State, setRel, setMoving}
 use Rattle.machine.specs.Turn as Machine
 use Rattle.rows_laws.specs.All.{rel, removeAt, first, takeFirst, transactionAt, update, Shows}
-use Rattle.rows_laws.proofs.{Data.transaction-kept, Take.Head, Take.nobody, Take.somebody, Laws.head-shows, Laws.take-shows, Laws.Takes}
+use Rattle.rows_laws.proofs.{buffer.RowData.transaction-kept, chains.TakeFirst.Head, chains.TakeFirst.nobody, chains.TakeFirst.somebody, Laws.head-shows, Laws.take-shows, Laws.Takes}
 use Rattle.state.specs.All.{putMoving, Rows, rowsOf, listsIn, listsOf, Stands}
 use Rattle.state.proofs.ListsOf.{lists-set-rel}
 use Rattle.clock.specs.{readyScalars, takeReady}

@@ -4,7 +4,7 @@ use Rattle.machine.specs.All.{ℕ, suc, _≤_, _<_, _≡_, refl, sym, subst, Li
 use Rattle.machine.specs.Turn as Machine
 use Rattle.machine.proofs.decoding.Proper.{Proper}
 use Rattle.rows_laws.specs.All.{rel, transactionAt}
-use Rattle.rows_laws.proofs.{Take.Head, Take.nobody, Take.somebody, Laws.head-shows}
+use Rattle.rows_laws.proofs.{chains.TakeFirst.Head, chains.TakeFirst.nobody, chains.TakeFirst.somebody, Laws.head-shows}
 use Rattle.state.specs.All.{Rows, rowsOf, listsIn, Stands}
 use Rattle.state.proofs.{Sane.Sane, Sanity.takenOf, Sanity.sane-turns}
 use Rattle.clock.specs.{nextEvents, takeReady, counted, take}

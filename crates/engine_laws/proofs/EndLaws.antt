@@ -1,8 +1,8 @@
 -- The end before a turn over rows is the machine's.
 use Rattle.machine.specs.All.{ℕ, _≡_, refl, Bool, true, false, cond, not, _&&_, List, Option, none, some, arith, lt-ltb, le-ltb, le-leb, lt-leb, ltb, leb, eqb, Transaction, State, isNone, isEmpty, nobodyLeft, endBefore, sym, ap, _∙_}
 use Rattle.rows_laws.specs.All.{rel, first, fel}
-use Rattle.rows_laws.proofs.Take.{Head, nobody, somebody, head-shown}
-use Rattle.rows_laws.proofs.Later.{head-fel-shown}
+use Rattle.rows_laws.proofs.chains.TakeFirst.{Head, nobody, somebody, head-shown}
+use Rattle.rows_laws.proofs.heap.FutureEvents.{head-fel-shown}
 use Rattle.state.specs.All.{Rows, listsIn, Moving, Listing, Stands}
 use Rattle.engine_laws.specs.{nobodyRows, wornRows, fullRows, limitRows, endRows}
 

@@ -4,7 +4,7 @@ use Rattle.machine.proofs.{decoding.Proper.Proper, decoding.ProperFrom.proper-f
 use Rattle.machine.proofs.order.Serials.{Apart, apart-turn, apart-start, single-rel, single-ql, single-wel}
 use Rattle.layout.specs.All.{tallySize, headerOf, Represents}
 use Rattle.rows_laws.specs.All.{wsl, rel, Strict}
-use Rattle.rows_laws.proofs.{Ordering.strict-of, KeptFirst.fel-first, KeptFirst.list-first, KeptFirst.list-head}
+use Rattle.rows_laws.proofs.{order.StayInOrder.strict-of, KeptFirst.fel-first, KeptFirst.list-first, KeptFirst.list-head}
 use Rattle.evaluation.proofs.NestedFrom.{nested-from}
 use Rattle.state.specs.All.{listsOf}
 use Rattle.state.proofs.{ListsOf.lists-ql, ListsOf.lists-wel, ListsOf.lists-rel, Written.Kept, Written.kept-start}

@@ -5,8 +5,8 @@ use Rattle.machine.proofs.{runs.Shape.gatherers-at, basic.Lists.those-none}
 use Rattle.layout.specs.All.{blockForms}
 use Rattle.rows_laws.specs.All.{head, rel, read, write, setReturning, removeAt, put, familyCell, lineUp, transactionAt, ending, update, All, moved as movedLists}
 use Rattle.rows_laws.specs.{Cells.load, Make.freeRow}
-use Rattle.rows_laws.proofs.{Data.same-row, Data.transaction-kept, Fields.write-next, Fields.write-serial, Fields.set-returning, Holding.remove-holds, Holding.remove-keeps, Insertion.map-insert, Making.written, Making.written-trans, Ordering.shows-ext, Laws.Wakes, Found.nobody, Found.somebody, Making.Written}
-use Rattle.rows_laws.proofs.Kin.{Other, Kin, kin-of, counts-shows, release-shows}
+use Rattle.rows_laws.proofs.{buffer.RowData.same-row, buffer.RowData.transaction-kept, buffer.FieldWrites.write-next, buffer.FieldWrites.write-serial, buffer.FieldWrites.set-returning, chains.InsertRemove.remove-holds, chains.InsertRemove.remove-keeps, order.SortedInsertion.map-insert, life.Making.written, life.Making.written-trans, order.StayInOrder.shows-ext, Laws.Wakes, placing.FirstThatPasses.nobody, placing.FirstThatPasses.somebody, life.Making.Written}
+use Rattle.rows_laws.proofs.kinds.Families.{Other, Kin, kin-of, counts-shows, release-shows}
 use Rattle.state.specs.{declared.scalars.Scalars.Scalars, Bare.goingBack, Bare.waiting, Stands.Listed}
 use Rattle.state.specs.All.{putMoving, putSerial, putNote, entering, beginning, bare, bareAnswer, rowsOf, gathererRow, listsIn, listsOf, Listing, noteOf, Done}
 use Rattle.state.proofs.ListsOf.{lists-gatherers, lists-set-gatherers, lists-moved}

@@ -2,7 +2,7 @@
 -- asks and changes.
 use Rattle.machine.specs.All.{ℕ, _≡_, refl, ap, Bool, true, false, List, [], _∷_, _++_, map, arith, eqb, length, Transaction, Gatherer, those, replaceFirst, inFamily, Each}
 use Rattle.rows_laws.specs.All.{read, transactionAt, All}
-use Rattle.rows_laws.proofs.Kin.{Other}
+use Rattle.rows_laws.proofs.kinds.Families.{Other}
 use Rattle.state.specs.All.{gathererRow}
 use mathlib.Core.Path.{sym, _∙_}
 use lib.ListN.{getD, drop}

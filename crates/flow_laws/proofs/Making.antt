@@ -1,8 +1,8 @@
 -- A free row becomes a transaction beside whoever moves: taken from the free rows, written, and put on the FEL or on REL.
 use Rattle.machine.specs.All.{ℕ, suc, _+_, _-_, _<_, _≡_, refl, ap, _∙_, _≢_, List, [], _∷_, Option, none, some, arith, length, Transaction, precedes, earlier, insert, State}
 use Rattle.rows_laws.specs.All.{place, rel, fel, free, load, schedule, put, first, takeFirst, transactionAt, eventAt, update, Shows, Loose}
-use Rattle.rows_laws.proofs.{Occurs.same-refl, Occurs.occurs-cons, Structure.row-of, Data.transaction-kept, Showing.update-same, Showing.update-other, Ordering.shows-ext, Put.put-keeps, Laws.Fresh, Laws.shows-put, Laws.shows-schedule, Scheduling.schedule-keeps, Steady.Around, Steady.around-loose, Steady.kept-around, Making.Written}
-use Rattle.rows_laws.proofs.Take.{First, none, some, first-of, take-keeps, take-loose, take-free-shown}
+use Rattle.rows_laws.proofs.{counting.Occurs.same-refl, counting.Occurs.occurs-cons, chains.StructuralLaw.row-of, buffer.RowData.transaction-kept, chains.Showing.update-same, chains.Showing.update-other, order.StayInOrder.shows-ext, placing.Put.put-keeps, Laws.Fresh, Laws.shows-put, Laws.shows-schedule, heap.Scheduling.schedule-keeps, life.LooseRowsStay.Around, life.LooseRowsStay.around-loose, life.LooseRowsStay.kept-around, life.Making.Written}
+use Rattle.rows_laws.proofs.chains.TakeFirst.{First, none, some, first-of, take-keeps, take-loose, take-free-shown}
 use Rattle.state.specs.All.{listsOf, Moving, Listing}
 use Rattle.rows_laws.specs.Order.{outranks, sooner}
 

@@ -3,8 +3,8 @@
 use Rattle.machine.specs.All.{ℕ, suc, _-_, _%_, _≤_, _<_, _≡_, refl, ap, _∙_, List, Option, some, arith, lt-ltb, Transaction, Event, precedes, newborn, insert, State, withSerial, withStamp, setMade, toRel, toFel, copyOf}
 use Rattle.machine.proofs.runs.Clocks.{Given}
 use Rattle.rows_laws.specs.All.{rel, free, write, setTime, put, first, takeFirst, schedule, newbornAt, copyAt, transactionAt, eventAt, update}
-use Rattle.rows_laws.proofs.{Laws.fresh-given, Fields.write-serial, Fields.write-time, Newborn.newborn-is, Newborn.copy-is}
-use Rattle.rows_laws.proofs.Making.{written, time-written, newborn-written, copied-written}
+use Rattle.rows_laws.proofs.{Laws.fresh-given, buffer.FieldWrites.write-serial, buffer.FieldWrites.write-time, life.NewTransaction.newborn-is, life.NewTransaction.copy-is}
+use Rattle.rows_laws.proofs.life.Making.{written, time-written, newborn-written, copied-written}
 use Rattle.state.specs.declared.scalars.Scalars.{Scalars}
 use Rattle.state.specs.All.{putSerial, putMade, rowsOf, listsIn, listsOf, Listing, Tallying, Counting, noteOf, Done, entering}
 use Rattle.state.proofs.{ListsOf.lists-set-rel, StandsLaws.renumber}

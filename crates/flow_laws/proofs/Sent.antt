@@ -2,7 +2,7 @@
 use Rattle.machine.specs.All.{ℕ, suc, _*_, _%_, _≤_, _<_, _≡_, refl, sym, ap, _∙_, subst, List, none, some, false, arith, Transaction, Event, State, withNext, withPriority, withSerial, withReturning, withStamp, toRel, toFel}
 use Rattle.machine.proofs.runs.Clocks.{Given}
 use Rattle.rows_laws.specs.All.{rel, write, setTime, put, schedule, eventAt}
-use Rattle.rows_laws.proofs.{Laws.fresh-given, Fields.write-serial, Fields.write-time, Newborn.write-priority}
+use Rattle.rows_laws.proofs.{Laws.fresh-given, buffer.FieldWrites.write-serial, buffer.FieldWrites.write-time, life.NewTransaction.write-priority}
 use Rattle.state.specs.declared.scalars.Scalars.{Scalars}
 use Rattle.state.specs.All.{putMoving, putSerial, listsIn, Listing, Counting}
 use Rattle.state.proofs.ListsOf.{lists-set-rel}

@@ -2,7 +2,7 @@
 use Rattle.machine.specs.All.{ℕ, _+_, _-_, _≡_, refl, ap, _∙_, subst, List, _∷_, none, some, arith, getD, Transaction, Event, terminate, BlockModel, State, setMoving, endsOne}
 use Rattle.layout.specs.All.{blockForms}
 use Rattle.rows_laws.specs.All.{free, freeRow, update, Shown}
-use Rattle.rows_laws.proofs.{Showing.update-same, Spot.short, Making.free-shown}
+use Rattle.rows_laws.proofs.{chains.Showing.update-same, placing.Spot.short, life.Making.free-shown}
 use Rattle.state.specs.declared.scalars.Scalars.{Scalars}
 use Rattle.state.specs.All.{entering, bare, rowsOf, listsOf, Listed, Counting, noteOf, Done}
 use Rattle.moves.proofs.{Before.placeOf, Before.bareBlock, Before.Before, BeforeLaws.operand, BeforeLaws.asked-moved, MotionLaws.next32-suc, MotionLaws.number-read}

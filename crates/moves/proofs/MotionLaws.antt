@@ -3,7 +3,7 @@ use Rattle.machine.specs.All.{ℕ, suc, _+_, _%_, _-_, _<_, _≡_, refl, sym, a
 use Rattle.machine.specs.Moves as Moves
 use Rattle.machine.proofs.lists.Sorted as Machine
 use Rattle.rows_laws.specs.All.{wsl, read, write, setReturning, lineUp, Sorted, orderOf, transactionAt, update}
-use Rattle.rows_laws.proofs.{Insertion.insert-sorted, Orders.precedes-order, Ordering.sorted-of, Ordering.sorted-line, Fields.write-next, Fields.write-serial, Fields.set-returning}
+use Rattle.rows_laws.proofs.{order.SortedInsertion.insert-sorted, order.RowOrders.precedes-order, order.StayInOrder.sorted-of, order.StayInOrder.sorted-line, buffer.FieldWrites.write-next, buffer.FieldWrites.write-serial, buffer.FieldWrites.set-returning}
 use Rattle.state.specs.declared.scalars.Scalars.{Scalars}
 use Rattle.state.specs.All.{rowsOf, listsIn, listsOf, Listed, Listing, Tallying, Counting, Stands, noteOf, Done, waitsNote, noNote, entering, goingBack, waiting}
 use Rattle.state.proofs.ListsOf.{lists-ql, lists-wel, lists-set-ql, lists-set-wel, lists-set-wsl}

@@ -7,10 +7,10 @@ use Rattle.machine.proofs.{decoding.Proper.Names, decoding.Proper.servers, list
 use Rattle.machine.proofs.lists.Chosen.{those-insert, those-one, those-else, those-replaced}
 use Rattle.layout.specs.All.{blockForms}
 use Rattle.rows_laws.specs.All.{fel, read, write, priorityOf, timeOf, setTime, put, first, takeFirst, schedule, cancel, loses, findLoser, transactionAt, eventAt, update, All, Sorted}
-use Rattle.rows_laws.proofs.{Data.transaction-kept, Fields.write-serial, Fields.write-stamp, Fields.write-time, Ordering.shows-ext, Take.Head, Later.rows-strict}
-use Rattle.rows_laws.proofs.Making.{Written, written, written-trans, time-written}
-use Rattle.rows_laws.proofs.Take as Take
-use Rattle.rows_laws.proofs.Interrupting.{Loser, nobody, somebody, find-of, loses-is, taken-later, interrupt-shows, resume-shows}
+use Rattle.rows_laws.proofs.{buffer.RowData.transaction-kept, buffer.FieldWrites.write-serial, buffer.FieldWrites.write-stamp, buffer.FieldWrites.write-time, order.StayInOrder.shows-ext, chains.TakeFirst.Head, heap.FutureEvents.rows-strict}
+use Rattle.rows_laws.proofs.life.Making.{Written, written, written-trans, time-written}
+use Rattle.rows_laws.proofs.chains.TakeFirst as Take
+use Rattle.rows_laws.proofs.kinds.Interruption.{Loser, nobody, somebody, find-of, loses-is, taken-later, interrupt-shows, resume-shows}
 use Rattle.rows_laws.proofs.Laws.{Wakes, Takes, fresh-given, head-shows, take-shows}
 use Rattle.state.specs.declared.scalars.Scalars.{Scalars}
 use Rattle.state.specs.All.{putSerial, updateServer, interruptedRow, listsIn, listsOf, Done, Bare, entering, goingBack, beginning, waiting, bare, bareAnswer}

@@ -2,7 +2,7 @@
 use Rattle.machine.specs.All.{ℕ, _≤_, _<_, ℕ-discrete, arith, _≡_, refl, sym, ap, ap₂, _∙_, false, List, _∷_, eq-eqb, eqb, length, replicate, length-replicate, State, Place, places, byNumber, placeNumbers, bit, Each, standing}
 use Rattle.machine.proofs.{decoding.Proper.Names, lists.Sums.sumOn, lists.Sums.sum-length, conservation.Standing.times-standing, lists.Sorting.sorted-is}
 use Rattle.rows_laws.specs.All.{numberField, read}
-use Rattle.rows_laws.proofs.Sums.{sum-ext}
+use Rattle.rows_laws.proofs.counting.Sums.{sum-ext}
 use Rattle.state.specs.All.{Listing}
 use Rattle.report_laws.specs.{placeOf, placeAt, lives, livingCount, placeRow, livingNumbers}
 use Rattle.report_laws.proofs as our

@@ -2,7 +2,7 @@
 use Rattle.machine.specs.All.{ℕ, suc, _+_, _-_, _≤_, _<_, arith, _≡_, refl, sym, ap, _∙_, Bool, true, false, cond, List, [], _∷_, map, Option, none, some, lt-ltb, le-ltb, eq-eqb, ne-eqb, ltb-true, ltb-false, eqb-true, eqb-false, ltb, eqb, length, getD, Transaction, Event, Gatherer, Interrupted, flat, those, State, ofFacility, interruptedAt, Each, Place, movingOne, places}
 use Rattle.machine.proofs.{decoding.Proper.Names, conservation.Standing.sum-places, lists.Sums.sumOn, lists.Sums.sum-map}
 use Rattle.rows_laws.specs.All.{place, fel, nowhere, numberField, load, read, transactionAt, eventAt, sumTo}
-use Rattle.rows_laws.proofs.Sums.{sum-suc, sum-ext, sum-add, sum-zero}
+use Rattle.rows_laws.proofs.counting.Sums.{sum-suc, sum-ext, sum-add, sum-zero}
 use Rattle.state.specs.All.{gathererRow, interruptedRow, listsIn, listsOf, Moving, Listing}
 use Rattle.state.proofs.ListsOf.{lists-gatherers, lists-interrupted}
 use Rattle.report_laws.specs.{listPlace, placeOf, placeAt}

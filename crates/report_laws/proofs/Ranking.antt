@@ -2,7 +2,7 @@
 use Rattle.machine.specs.All.{ℕ, zero, suc, _+_, _*_, _%_, _≤_, _<_, ℕ-discrete, arith, _≡_, refl, sym, ap, ap₂, _∙_, subst, _≢_, Bool, true, false, cond, List, [], _∷_, _++_, leb-true, leb-false, leb, eqb, length, getD, set, length-set, getD-set-same, getD-set-other, Place, placeNumbers, Each}
 use Rattle.machine.proofs.{lists.Sums.sumOn, lists.Sums.sum-append, lists.Sorting.Rising}
 use Rattle.rows_laws.specs.All.{numberField, read, sumTo}
-use Rattle.rows_laws.proofs.Sums.{sum-suc, sum-ext, sum-zero}
+use Rattle.rows_laws.proofs.counting.Sums.{sum-suc, sum-ext, sum-zero}
 use Rattle.report_laws.specs.{rowsTo, placeOf, placeAt, lives, keyOf, sift, rankOne, rankTo}
 
 -- ---- One key more

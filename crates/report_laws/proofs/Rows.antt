@@ -2,8 +2,8 @@
 use Rattle.machine.specs.All.{ℕ, zero, suc, _+_, _*_, _≤_, _<_, add-zero, add-suc, ℕ-discrete, arith, _≡_, refl, sym, ap, _∙_, _≢_, Bool, true, false, cond, List, [], _∷_, le-ltb, eq-eqb, ne-eqb, ltb-true, ltb-false, eqb-true, eqb-false, ltb, eqb, length, getD, flat}
 use Rattle.machine.proofs.lists.Sums.{sumOn, sum-append}
 use Rattle.rows_laws.specs.All.{place, listCount, load, same, occurs, Holds, sumTo}
-use Rattle.rows_laws.proofs.Occurs.{same-refl}
-use Rattle.rows_laws.proofs.Sums.{sum-suc, sum-ext, sum-add, sum-zero, sum-at}
+use Rattle.rows_laws.proofs.counting.Occurs.{same-refl}
+use Rattle.rows_laws.proofs.counting.Sums.{sum-suc, sum-ext, sum-add, sum-zero, sum-at}
 
 -- ---- Parts of a sum
 

@@ -3,11 +3,11 @@
 use Rattle.machine.specs.All.{ℕ, zero, suc, _≤_, _<_, _≡_, refl, sym, ap, _∙_, subst, _≢_, Bool, true, false, cond, not, List, [], _∷_, map, arith, ℕ-discrete, lt-ltb, le-ltb, eqb-true, eqb-false, not-false, eqb, take, Transaction, Event, precedes}
 use Rattle.rows_laws.specs.All.{place, fel, load, outranks, sooner, first, transactionAt, occurs, Listed, Sorted, Strict, Shows, earlierOf, walkTo, fullWalk, orNone, NoneWhenEmpty, KeptFirst, kept, KeptHead}
 use Rattle.rows_laws.proofs as our
-use our.Occurs.{same-refl, same-other, same-pos, occurs-cons}
-use our.Insertion.{Order, not-both, before-none, sorted-unmap, order-unmap}
-use our.{Orders.precedes-order, Orders.outranks-is, Scheduling.sooner-order}
-use our.Take.{First, none, some, first-of, Head, nobody as none-leads, somebody as one-leads, head-of}
-use our.Later.{all-at, rows-strict, first-fel}
+use our.counting.Occurs.{same-refl, same-other, same-pos, occurs-cons}
+use our.order.SortedInsertion.{Order, not-both, before-none, sorted-unmap, order-unmap}
+use our.{order.RowOrders.precedes-order, order.RowOrders.outranks-is, heap.Scheduling.sooner-order}
+use our.chains.TakeFirst.{First, none, some, first-of, Head, nobody as none-leads, somebody as one-leads, head-of}
+use our.heap.FutureEvents.{all-at, rows-strict, first-fel}
 
 occurs-none : (k : ℕ) → occurs k [] ≡ 0
 unfolding occurs

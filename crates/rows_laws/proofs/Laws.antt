@@ -5,22 +5,22 @@ use Rattle.machine.specs.Moves as Moves
 use Rattle.machine.proofs.nobody_able.QueueRemove.{walk}
 use Rattle.rows_laws.specs.All.{listCount, place, head, wsl, rel, fel, free, load, outranks, sooner, removeAt, put, first, takeFirst, remove, schedule, cancel, lineUp, wakeFirst, wakeWalk, wakeAll, Arrived, arrive, arrivals, freeRow, loose, onLists, transactionAt, eventAt, ending, Holds, update, All, Sorted, Ordered, orderOf, Shows, Loose, moved}
 use Rattle.rows_laws.proofs as our
-use our.Occurs.{same-refl, occurs-append, occurs-cons}
-use our.Insertion.{all-map, front, insert-sorted, insert-strict, sorted-without, sorted-drop, sorted-those}
-use our.Orders.{precedes-order, earlier-order, earlier-total}
-use our.Ordering.{sorted-weaker, sorted-line, ordered-list, ordered-fel, ordered-moved, wake-sorted, arrivals-sorted}
-use our.{Structure.row-of, Spot.short, Data.SameRow, Data.same-row, Showing.shown-list, Loose.loose-more, Loose.loose-less, Removal.rest-of, Removal.remove-is}
-use our.Holding.{Kept, remove-holds, remove-keeps, remove-placed}
-use our.Steady.{Steady, Around, kept-around}
-use our.Put.{put-keeps, put-placed, put-shown}
-use our.LiningUp.{lined, line-shown, line-keeps, line-placed}
-use our.Take.{Head, head-shown, rows-first, take-shown, take-free-shown}
-use our.Later.{head-fel-shown, schedule-shown, cancel-shown}
-use our.Scheduling.{schedule-keeps, schedule-placed, cancel-was, cancel-keeps, cancel-placed}
-use our.Making.{free-keeps, free-placed, free-shown}
-use our.WakingAll
-use our.Arriving
-use our.Population
+use our.counting.Occurs.{same-refl, occurs-append, occurs-cons}
+use our.order.SortedInsertion.{all-map, front, insert-sorted, insert-strict, sorted-without, sorted-drop, sorted-those}
+use our.order.RowOrders.{precedes-order, earlier-order, earlier-total}
+use our.order.StayInOrder.{sorted-weaker, sorted-line, ordered-list, ordered-fel, ordered-moved, wake-sorted, arrivals-sorted}
+use our.{chains.StructuralLaw.row-of, placing.Spot.short, buffer.RowData.SameRow, buffer.RowData.same-row, chains.Showing.shown-list, counting.LooseRows.loose-more, counting.LooseRows.loose-less, chains.RemoveRow.rest-of, chains.RemoveRow.remove-is}
+use our.chains.InsertRemove.{Kept, remove-holds, remove-keeps, remove-placed}
+use our.life.LooseRowsStay.{Steady, Around, kept-around}
+use our.placing.Put.{put-keeps, put-placed, put-shown}
+use our.placing.LineUp.{lined, line-shown, line-keeps, line-placed}
+use our.chains.TakeFirst.{Head, head-shown, rows-first, take-shown, take-free-shown}
+use our.heap.FutureEvents.{head-fel-shown, schedule-shown, cancel-shown}
+use our.heap.Scheduling.{schedule-keeps, schedule-placed, cancel-was, cancel-keeps, cancel-placed}
+use our.life.Making.{free-keeps, free-placed, free-shown}
+use our.waking.WakeMany
+use our.clock.RowArrivals
+use our.counting.Population
 use mathlib.Core.Path.{subst}
 use Rattle.rows_laws.specs.Layout.{nowhere}
 use Rattle.rows_laws.specs.Ordered.{Strict}
@@ -299,7 +299,7 @@ module _ (w : List ℕ) (T : ℕ → List Transaction) (E : List Event) (s : Sho
   ready = o .lists rel (omega arith)
 
   wakes : (p : ℕ) (hp : p < 449) (l m : List Transaction) (w′ : List ℕ) → Sorted (orderOf p) l
-      → WakingAll.Woken w w′ (moved p l (wake m (T rel)) T) E
+      → WakeMany.Woken w w′ (moved p l (wake m (T rel)) T) E
       → Wakes w w′ (moved p l (wake m (T rel)) T) E
   wakes p hp l m w′ sorted woken =
       record {
@@ -316,7 +316,7 @@ module _ (w : List ℕ) (T : ℕ → List Transaction) (E : List Event) (s : Sho
   pub wake-first-shows : (p : ℕ) → p < 449 → Wakes w (wakeFirst w p) (moved p (drop 1 (T p)) (wake (take 1 (T p)) (T rel)) T) E
   wake-first-shows p hp =
       wakes p hp (drop 1 (T p)) (take 1 (T p)) (wakeFirst w p) (sorted-drop (orderOf p) (T p) (o .lists p (omega arith)))
-      (WakingAll.wake-first-held w L T E (s .shown) ready p hp)
+      (WakeMany.wake-first-held w L T E (s .shown) ready p hp)
 
   -- all of a line that pass a test of the transaction alone go to REL, in their order
   pub wake-all-shows : (test : List ℕ → ℕ → Bool) (P : Transaction → Bool) → ((v : List ℕ) (k : ℕ) → test v k ≡ P (transactionAt v k))
@@ -326,9 +326,9 @@ module _ (w : List ℕ) (T : ℕ → List Transaction) (E : List Event) (s : Sho
       wakes p hp (others P (T p)) (those P (T p)) (wakeAll test 1024 w p (head p))
       (sorted-those (orderOf p) (λ t. not (P t)) (T p) (o .lists p (omega arith)))
       (subst
-      (λ (l : List Transaction). WakingAll.Woken w (wakeAll test 1024 w p (head p)) (moved p (others P l) (wake (those P l) (T rel)) T) E)
+      (λ (l : List Transaction). WakeMany.Woken w (wakeAll test 1024 w p (head p)) (moved p (others P l) (wake (those P l) (T rel)) T) E)
       (s .shown .lists p (omega arith))
-      (WakingAll.wakeAll-held test P agree E p hp 1024 w L T (s .shown) ready (short w p (L p) (h .listed p (omega arith)))))
+      (WakeMany.wakeAll-held test P agree E p hp 1024 w L T (s .shown) ready (short w p (L p) (h .listed p (omega arith)))))
 
   -- from a line of waiters, with a number
   pub wake-walk-shows : (test : ℕ → List ℕ → ℕ → Bool) (next : ℕ → List ℕ → ℕ → ℕ) (P : ℕ → Transaction → Bool) (N : ℕ → Transaction → ℕ)
@@ -342,10 +342,10 @@ module _ (w : List ℕ) (T : ℕ → List Transaction) (E : List Event) (s : Sho
       wakes p (omega arith) (walk P N left (T p) .stay) (walk P N left (T p) .go) (wakeWalk test next 1024 left w p (head p))
       (sorted-line p hp _)
       (subst
-      (λ (l : List Transaction). WakingAll.Woken w (wakeWalk test next 1024 left w p (head p))
+      (λ (l : List Transaction). WakeMany.Woken w (wakeWalk test next 1024 left w p (head p))
       (moved p (walk P N left l .stay) (wake (walk P N left l .go) (T rel)) T) E)
       (s .shown .lists p (omega arith))
-      (WakingAll.wakeWalk-held test next P N agree follow E p (omega arith) 1024 (L p) left w L T (s .shown) ready [] refl
+      (WakeMany.wakeWalk-held test next P N agree follow E p (omega arith) 1024 (L p) left w L T (s .shown) ready [] refl
       (short w p (L p) (h .listed p (omega arith)))))
 
   -- ---- A clock move
@@ -354,12 +354,12 @@ module _ (w : List ℕ) (T : ℕ → List Transaction) (E : List Event) (s : Sho
   pub arrive-shows : (e : Event) (l : List Event) → E ≡ e ∷ l → (serial : ℕ)
       → Arrives w (arrive 1024 (e .time) w serial) (update rel (arrivals (those (due (e .time)) E) serial (T rel)) T)
       (others (due (e .time)) E) (serial + length (those (due (e .time)) E))
-  arrive-shows e l q serial = go (Arriving.arrive-held w L T E (s .shown) ready (o .future) e l q serial)
+  arrive-shows e l q serial = go (RowArrivals.arrive-held w L T E (s .shown) ready (o .future) e l q serial)
     where
       later : List Event
       later = others (due (e .time)) E
 
-      go : Arriving.Came w (arrive 1024 (e .time) w serial) (update rel (arrivals (those (due (e .time)) E) serial (T rel)) T) later
+      go : RowArrivals.Came w (arrive 1024 (e .time) w serial) (update rel (arrivals (those (due (e .time)) E) serial (T rel)) T) later
           (serial + length (those (due (e .time)) E))
           → Arrives w (arrive 1024 (e .time) w serial) (update rel (arrivals (those (due (e .time)) E) serial (T rel)) T) later
           (serial + length (those (due (e .time)) E))

@@ -7,7 +7,7 @@ use Rattle.machine.proofs.{decoding.Proper.Proper, decoding.Proper.servers, run
 use Rattle.machine.proofs.nobody_able.QueueRemove.{walk, walk-same, within, leftAfter, leave-walks, some-units}
 use Rattle.layout.specs.All.{blockForms, Represents}
 use Rattle.rows_laws.specs.All.{head, wakeWalk, wakeWhole, transactionAt}
-use Rattle.rows_laws.proofs.Ordering.{sorted-of}
+use Rattle.rows_laws.proofs.order.StayInOrder.{sorted-of}
 use Rattle.state.specs.declared.scalars.Scalars.{Scalars}
 use Rattle.state.specs.All.{behind, updateServer, rowsOf, Done, entering, bare, bareAnswer}
 use Rattle.state.proofs.WakingLaws.{everybody}

@@ -6,7 +6,7 @@ use Rattle.machine.proofs.{nobody_able.QueueRemove.walk, runs.Shape.wel-below}
 use Rattle.machine.specs.Moves as Moves
 use Rattle.machine.specs.Execute as Execute
 use Rattle.rows_laws.specs.All.{links, head, tail, rel, load, first, outranks, keepHolder, wakeFirst, wakeWalk, wakeWhole, transactionAt, Sorted}
-use Rattle.rows_laws.proofs.Interrupting.{keep-holder-wakes}
+use Rattle.rows_laws.proofs.kinds.Interruption.{keep-holder-wakes}
 use Rattle.state.specs.declared.scalars.Scalars.{Scalars}
 use Rattle.state.specs.All.{behind, updateServer, listsOf, Listing, Tallying, Counting, Done, entering}
 use Rattle.state.proofs.{ListsOf.lists-ql, StandsLaws.listing-steady, StatisticsLaws.server-tallying, StatisticsLaws.server-current}

@@ -2,11 +2,11 @@
 use Rattle.machine.specs.All.{ℕ, zero, suc, _+_, _≤_, _<_, _≡_, refl, sym, ap, _∙_, Bool, true, false, cond, List, [], _∷_, _++_, map, append-assoc, arith, lt-ltb, le-ltb, length, Transaction, Event, precedes, Parted, goes, stays}
 use Rattle.machine.proofs.nobody_able.QueueRemove.{walk}
 use Rattle.rows_laws.specs.All.{link, head, rel, load, wakeAt, after, passRows, passCell, wakeWalk, transactionAt, Chain, ending, Sorted, Shown, Shows}
-use Rattle.rows_laws.proofs.{Occurs.occurs-append, Chain.chain-after, Chain.ending-append, Spot.short, Steps.wakeWalk-end, Steps.wakeWalk-stop, Steps.wakeWalk-next}
-use Rattle.rows_laws.proofs.Waking.{wake-rows, wake-shown, wake-ready, wake-same}
+use Rattle.rows_laws.proofs.{counting.Occurs.occurs-append, chains.Chain.chain-after, chains.Chain.ending-append, placing.Spot.short, Steps.wakeWalk-end, Steps.wakeWalk-stop, Steps.wakeWalk-next}
+use Rattle.rows_laws.proofs.waking.WakeOne.{wake-rows, wake-shown, wake-ready, wake-same}
 use Rattle.servers_laws.specs.{oneUnless, wakeStays}
 use Rattle.rows_laws.specs.Holds.{Listed}
-use Rattle.rows_laws.proofs.Waking.{woken}
+use Rattle.rows_laws.proofs.waking.WakeOne.{woken}
 
 -- ---- Steps
 

@@ -5,7 +5,7 @@ use Rattle.machine.proofs.runs.Clocks.{Given, with-fresh}
 use Rattle.machine.proofs.decoding.Proper.{Names, ProperBlock, Proper}
 use Rattle.layout.specs.All.{tallySize, blockForms, blockNumbers, headerOf, Represents}
 use Rattle.rows_laws.specs.All.{initial, onLists, Shows}
-use Rattle.rows_laws.proofs.{Sums.sum-zero, Ordering.shows-ext, Starting.initial-shows, Starting.initial-loose, Population.population}
+use Rattle.rows_laws.proofs.{counting.Sums.sum-zero, order.StayInOrder.shows-ext, life.Start.initial-shows, life.Start.initial-loose, counting.Population.population}
 use Rattle.state.specs.All.{Rows, rowsOf, gathererRow, listsIn, listsOf, Listing, Counting, Stands}
 use Rattle.state.proofs.StandsLaws.{stands-of}
 use Rattle.flow_laws.specs.{Samples.nextSample, Sending.arrives}

@@ -3,7 +3,7 @@ use Rattle.machine.specs.All.{decided, ℕ, zero, suc, _+_, _-_, _≤_, _<_, _�
 use Rattle.machine.proofs.lists.Sums.{sumOn, sum-append, sum-those, sum-map, sum-count}
 use Rattle.machine.proofs.{conservation.Balance.listed, conservation.Balance.held, conservation.Conservation.sum-everyone}
 use Rattle.rows_laws.specs.All.{place, fel, free, load, read, lives, transactionAt, eventAt, occurs}
-use Rattle.rows_laws.proofs.{Occurs.same-refl, Occurs.same-other, Steps.Holder}
+use Rattle.rows_laws.proofs.{counting.Occurs.same-refl, counting.Occurs.same-other, Steps.Holder}
 use Rattle.state.specs.All.{gathererRow, interruptedRow, listsOf, Listing}
 use Rattle.state.proofs.ListsOf.{lists-ql, lists-wel, lists-wsl, lists-rel, lists-gatherers, lists-interrupted}
 

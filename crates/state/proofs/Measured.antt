@@ -3,7 +3,7 @@ use Rattle.machine.specs.All.{ℕ, zero, suc, _+_, _*_, _-_, _≤_, _<_, _≡_,
 use Rattle.machine.proofs.{decoding.Proper.Proper, runs.RunLaws.cond-cases, runs.RunLaws.each-map, runs.RunLaws.each-pair, lists.Sorted.each-those, runs.Clocks.Samples, runs.Ahead.rising-those, runs.Ahead.Ahead}
 use Rattle.machine.proofs.runs.Shape.{Shape, Within, capacityOf, allCapacities}
 use Rattle.rows_laws.specs.All.{arrivals}
-use Rattle.rows_laws.proofs.Arrivals.{arriveAll-is}
+use Rattle.rows_laws.proofs.clock.MachineArrivals.{arriveAll-is}
 use Rattle.state.proofs.Gains.{each-alike, each-mapped, Sums, serverSums, queueSums, Gains}
 
 -- ---- Definition

@@ -5,7 +5,7 @@ use Rattle.layout.specs.Layout as Layout
 use Rattle.rows_laws.specs.All.{wsl, free, write, setTime, put, schedule, transactionAt, eventAt, update, Sorted, orderOf, Shows}
 use Rattle.rows_laws.specs.Layout as Layout′
 use Rattle.rows_laws.specs.Lines as Lines
-use Rattle.rows_laws.proofs.{Showing.update-other, Ordering.line-sorted, Ordering.shows-ext, Write.write-shown, Write.write-loose, Fields.write-stamp, Steady.Steady, Steady.steady-transaction, Population.free-kept}
+use Rattle.rows_laws.proofs.{chains.Showing.update-other, order.StayInOrder.line-sorted, order.StayInOrder.shows-ext, buffer.RowWrites.write-shown, buffer.RowWrites.write-loose, buffer.FieldWrites.write-stamp, life.LooseRowsStay.Steady, life.LooseRowsStay.steady-transaction, counting.Population.free-kept}
 use Rattle.rows_laws.proofs.Laws.{Fresh, shows-put, shows-line, shows-schedule}
 use Rattle.state.specs.declared.scalars.Scalars.{Scalars}
 use Rattle.state.proofs.StatisticsLaws.{SamePair, behind-same, sum-same, longest-same}

@@ -3,7 +3,7 @@
 use Rattle.machine.specs.All.{ℕ, _+_, _-_, _<_, _≡_, refl, Bool, true, List, [], Option, arith, length, getD, set, length-map, Transaction, precedes, Code, welIndex, State, Parted, setQl, setWel, setWsl, setRel, firstOf, wake, wakeQl, wakeFirstWel, wakeWsl}
 use Rattle.machine.proofs.nobody_able.QueueRemove.{walk}
 use Rattle.rows_laws.specs.All.{links, head, tail, wsl, rel, load, first, outranks, wakeFirst, wakeWalk, wakeAll, wakeWhole, transactionAt, Sorted, moved}
-use Rattle.rows_laws.proofs.{Ordering.shows-ext, Readied.parts-readied, Whole.whole-wakes}
+use Rattle.rows_laws.proofs.{order.StayInOrder.shows-ext, waking.ReadyRows.parts-readied, waking.WholeList.whole-wakes}
 use Rattle.rows_laws.proofs.Laws.{Wakes, wake-first-shows, wake-walk-shows, wake-all-shows}
 use Rattle.state.specs.All.{listsOf, Listing}
 use Rattle.state.proofs as our

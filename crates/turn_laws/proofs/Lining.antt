@@ -3,7 +3,7 @@ use Rattle.machine.specs.All.{cases, ℕ, zero, suc, _+_, _-_, _%_, _/_, _≤_,
 use Rattle.machine.proofs.basic.Bools.{cond-true, cond-false}
 use Rattle.layout.specs.Layout as Layout
 use Rattle.rows_laws.specs.All.{rel, links, place, head, tail, link, fieldAt, nowhere, load, store, read, outranks, first, endAt, insertAt, removeRow, removeAt, takeFirst, spotBefore, spot, note, put, lineUp}
-use Rattle.rows_laws.proofs.Store.{length-store, load-same, load-other, store-kept, store-swap, store-again}
+use Rattle.rows_laws.proofs.buffer.Store.{length-store, load-same, load-other, store-kept, store-swap, store-again}
 use Rattle.turn_laws.specs.{serverOf, backTo, lined, linedTimes, Lines, endsAt, comesWith, WhereLine, tied}
 
 -- ---- Stores and the end of a list

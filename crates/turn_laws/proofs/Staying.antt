@@ -5,7 +5,7 @@ use Rattle.machine.proofs.basic.Bools.{cond-true, cond-false}
 use Rattle.constants.specs.declared.model.Model.{Model}
 use Rattle.layout.specs.Layout as Layout
 use Rattle.rows_laws.specs.All.{rel, wsl, place, tail, head, fieldAt, load, store, read, first, takeFirst, put, endAt, removeRow, removeAt, lineUp}
-use Rattle.rows_laws.proofs.Store.{load-other}
+use Rattle.rows_laws.proofs.buffer.Store.{load-other}
 use Rattle.state.specs.{declared.scalars.Scalars.Scalars, All.putMoving, All.putNote, All.rowsOf}
 use Rattle.moves.specs.Motion.{waitOn, putBack, moved}
 use Rattle.clock.specs.Taking.{readyScalars, takeReady, counted, take}

@@ -6,7 +6,7 @@ use mir.Val.{toZ}
 use Rattle.machine.specs.Moves as Moves
 use Rattle.layout.specs.All.{blockForms}
 use Rattle.rows_laws.specs.All.{wsl, parameterField, write, Sorted}
-use Rattle.rows_laws.proofs.Fields.{write-parameter}
+use Rattle.rows_laws.proofs.buffer.FieldWrites.{write-parameter}
 use Rattle.evaluation.specs.{Evaluation.compareAt, Sees.parametersOf, Sees.Sees}
 use Rattle.evaluation.proofs.{Signs.signed-low, Laws.let-law, Laws.if-law}
 use Rattle.state.specs.declared.scalars.Scalars.{Scalars}

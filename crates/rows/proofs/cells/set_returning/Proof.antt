@@ -1,6 +1,6 @@
 -- `set_returning` meets its contract: a mark that stands stays; else what is written is made of what was read.
 use Rattle.machine.specs.All.{sym, ap, _∙_, _%_, needs}
-use Rattle.rows_laws.proofs.Store.{returning-kept}
+use Rattle.rows_laws.proofs.buffer.Store.{returning-kept}
 use Rattle.rows.proofs.cells.set_returning.Statement.{statement}
 use Rattle.rows.proofs.cells.set_returning.Tie as tie
 

@@ -1,7 +1,7 @@
 -- `last_cell` meets its contract. The invariant: the rest of the walk from here is the whole walk. The measure: the steps left.
 use Rattle.machine.specs.All.{_-_, _≤_, _≡_, refl, sym, _∙_, arith}
 use Rattle.rows_laws.specs.All.{lastCell}
-use Rattle.rows_laws.proofs.Walk.{lastCell-end, lastCell-stop, lastCell-next}
+use Rattle.rows_laws.proofs.placing.WalkSteps.{lastCell-end, lastCell-stop, lastCell-next}
 use Rattle.rows.proofs.lines.last_cell.Statement.{statement}
 use Rattle.rows.proofs.lines.last_cell.Tie as tie
 

@@ -1,0 +1,2 @@
+pub mod MachineArrivals
+pub mod RowArrivals

@@ -1,0 +1,4 @@
+pub mod Occurs
+pub mod Sums
+pub mod LooseRows
+pub mod Population

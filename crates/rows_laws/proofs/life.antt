@@ -1,0 +1,4 @@
+pub mod LooseRowsStay
+pub mod Making
+pub mod NewTransaction
+pub mod Start

@@ -1,0 +1,3 @@
+pub mod SortedInsertion
+pub mod RowOrders
+pub mod StayInOrder

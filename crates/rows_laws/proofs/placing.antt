@@ -1,0 +1,5 @@
+pub mod WalkSteps
+pub mod Spot
+pub mod Put
+pub mod LineUp
+pub mod FirstThatPasses
