@@ -27,7 +27,9 @@ pub fn uniform(r: u32) -> f64
 
 // The segment of a curve around u. The last u of a curve is 1, so the walk ends inside it.
 pub fn segment(numbers: &[f64], first: u32, u: f64) -> Segment
-    ensures { λ r. ⌜ ((p : Point) (l : List Point) (v : ℕ) → Points (now (numbers .entry)) first p l → p .u ≤ v → v < drawParts → Is u v drawParts → Surrounds r (around p l v) v) ⌝ }
+    ensures { λ r. ⌜
+        ((p : Point) (l : List Point) (v : ℕ) → Points (now (numbers .entry)) first p l → p .u ≤ v → v < drawParts → Is u v drawParts
+        → Surrounds r (around p l v) v) ⌝ }
 {
     let mut at = first as usize;
     while at + 3 < numbers.len() {

@@ -42,7 +42,8 @@ pub fn measure_times(numbers: &[f64], d: Distribution, count: u32, state: u32) -
 pub fn measure(lists: &[u32], numbers: &[f64], count: usize, state: u32) -> usize
     requires { ⌜ Inside state ⌝ }
     requires { ⌜ (count * 4 ≤ length (now lists)) × (count ≤ mostLists) ⌝ }
-    ensures { λ r. ⌜ ((ls : List Listed) → listsFrom (now (lists .entry)) (now (numbers .entry)) count 0 ≡ some ls → r ≡ length (tapeBytes ls state)) ⌝ }
+    ensures { λ r. ⌜
+        ((ls : List Listed) → listsFrom (now (lists .entry)) (now (numbers .entry)) count 0 ≡ some ls → r ≡ length (tapeBytes ls state)) ⌝ }
 {
     let mut k: usize = 0;
     let mut bytes: usize = 0;
@@ -69,7 +70,9 @@ pub fn write_times(
     state: u32,
 ) -> Progress
     requires { ⌜ Inside state ⌝ }
-    ensures { λ r. ⌜ ((s : Source) → Meant (now (numbers .entry)) d s → start + length (timesBytes s count state) ≤ length (now (tape .entry)) → TimesWritten s count state start (now (tape .entry)) (now (tape .exit)) (r .bytes) (r .state)) ⌝ }
+    ensures { λ r. ⌜
+        ((s : Source) → Meant (now (numbers .entry)) d s → start + length (timesBytes s count state) ≤ length (now (tape .entry))
+        → TimesWritten s count state start (now (tape .entry)) (now (tape .exit)) (r .bytes) (r .state)) ⌝ }
     ensures inside { λ r. ⌜ Inside (r .state) ⌝ }
 {
     let mut left = count;
@@ -91,7 +94,9 @@ pub fn write_times(
 pub fn write(tape: &mut [u8], lists: &[u32], numbers: &[f64], count: usize, state: u32)
     requires { ⌜ Inside state ⌝ }
     requires { ⌜ count * 4 ≤ length (now lists) ⌝ }
-    ensures { λ _. ⌜ ((ls : List Listed) → listsFrom (now (lists .entry)) (now (numbers .entry)) count 0 ≡ some ls → length (tapeBytes ls state) ≤ length (now (tape .entry)) → now (tape .exit) ≡ sets (now (tape .entry)) 0 (tapeBytes ls state)) ⌝ }
+    ensures { λ _. ⌜
+        ((ls : List Listed) → listsFrom (now (lists .entry)) (now (numbers .entry)) count 0 ≡ some ls
+        → length (tapeBytes ls state) ≤ length (now (tape .entry)) → now (tape .exit) ≡ sets (now (tape .entry)) 0 (tapeBytes ls state)) ⌝ }
 {
     let mut k: usize = 0;
     let mut at: usize = 0;

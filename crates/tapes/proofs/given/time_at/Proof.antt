@@ -5,5 +5,20 @@ use Rattle.tapes_laws.proofs.Reading.{time-past}
 use Rattle.machine.specs.All.{needs}
 use Rattle.tapes.proofs.given.time_at as f
 
+returns-len-at-most-at : f.Tie.Need-returns
+unfolding countOf
+returns-len-at-most-at c =
+    time-past _ _ (c .if1 .taken)
+
+returns-last : f.Tie.Need-returns-2
+unfolding timeAt
+returns-last c =
+    c .time-parts .ensures
+
 pub time-at-spec : {M : Type 1} → f.Statement.statement M
-time-at-spec = f.Tie.close (f.Tie.spec (λ c. unfold countOf in time-past _ _ (c .if1 .taken)) (search needs) (search needs) (search needs) (λ c. unfold timeAt in c .time-parts .ensures))
+time-at-spec = f.Tie.close (f.Tie.spec
+    returns-len-at-most-at
+    (search needs)
+    (search needs)
+    (search needs)
+    returns-last)
