@@ -2,6 +2,7 @@
 -- records and the sums of the statistics stay, and every move time is at or past the clock.
 use Rattle.machine.specs.All.{ℕ, zero, suc, _+_, _≤_, _≡_, _∙_, List, [], _∷_, map, arith, set, inForce, Server, Queue, State, Each}
 use Rattle.machine.proofs.{runs.Ahead.Ahead, runs.RunLaws.each-map, runs.Clocks.Samples}
+use mathlib.Core.Path.{sym, subst}
 
 -- ---- Lists of which each passes
 
@@ -19,8 +20,9 @@ each-mapped f P [] h = tt
 each-mapped f P (x ∷ l) h = (h .0, each-mapped f P l (h .1))
 
 -- what is read of each member is the same in both lists
-pub each-alike : {A B : Type 0} (f : A → B) (P : B → Type 0) (l l′ : List A) → map f l′ ≡ map f l → Each (λ a. P (f a)) l → Each (λ a. P (f a)) l′
-each-alike f P l l′ e h = each-mapped f P l′ (rw e (map-each f P l h))
+pub each-alike : {A B : Type 0} (f : A → B) (P : B → Type 0) (l l′ : List A) → map f l′ ≡ map f l → Each (λ a. P (f a)) l
+    → Each (λ a. P (f a)) l′
+each-alike f P l l′ e h = each-mapped f P l′ (subst (Each P) (sym e) (map-each f P l h))
 
 -- ---- Definition
 
@@ -53,13 +55,15 @@ pub record Gains (j k c : ℕ) (s s′ : State) : Type 0 where
   pub ahead : Ahead s → Ahead s′
   pub servers : map serverSums (s′ .view .servers) ≡ map serverSums (s .view .servers)
   pub queues : map queueSums (s′ .view .queues) ≡ map queueSums (s .view .queues)
-  pub contents : (n : ℕ) → Each (λ (q : Queue). q .content ≤ n) (s .view .queues) → Each (λ (q : Queue). q .content ≤ n + c) (s′ .view .queues)
+  pub contents : (n : ℕ) → Each (λ (q : Queue). q .content ≤ n) (s .view .queues)
+      → Each (λ (q : Queue). q .content ≤ n + c) (s′ .view .queues)
 
 -- ---- One after the other
 
 pub more : (n c : ℕ) (l : List Queue) → Each (λ (q : Queue). q .content ≤ n) l → Each (λ (q : Queue). q .content ≤ n + c) l
 more n c l h = each-map (λ q (le : q .content ≤ n). omega arith) l h
 
+-- one after the other, the gains add up
 pub gains-trans : {j k c j′ k′ c′ : ℕ} {a b d : State} → Gains j k c a b → Gains j′ k′ c′ b d → Gains (j + j′) (k + k′) (c + c′) a d
 gains-trans {c = c} {c′ = c′} {d = d} g h =
     record {
@@ -77,7 +81,7 @@ gains-trans {c = c} {c′ = c′} {d = d} g h =
       ahead = λ x. h .ahead (g .ahead x);
       servers = h .servers ∙ g .servers;
       queues = h .queues ∙ g .queues;
-      contents = λ n x. each-map (λ q (le : q .content ≤ n + c + c′). omega arith) (d .view .queues) (h .contents _ (g .contents n x));
+      contents = λ n x. each-map (λ q (le : q .content ≤ n + c + c′). omega arith) (d .view .queues) (h .contents (n + c) (g .contents n x));
     }
 
 pub gains-most : {j k c : ℕ} (j′ k′ c′ : ℕ) {a b : State} → j ≤ j′ → k ≤ k′ → c ≤ c′ → Gains j k c a b → Gains j′ k′ c′ a b

@@ -6,6 +6,9 @@ use Rattle.machine.proofs.lists.Sums.{count-cons, upTo-cong, upTo-zero, upTo-on
 use Rattle.trace.specs.Whole.{AllInRanges}
 use Rattle.state.specs.All.{atBlock}
 use Rattle.state.proofs.Written.{at-block-cons, Traced, inOrder, in-order-cons}
+use mathlib.Core.Path.{ap, _∙_}
+use Rattle.machine.specs.Rules.{Rules}
+use Rattle.machine.specs.Trace.{inRanges}
 
 -- ---- Sums over the numbers from 1 on
 
@@ -25,14 +28,7 @@ module _ (m : BlockModel) (outcome : ℕ) (p : Facts → Bool) where
   -- one record more adds to its own block only
   share-cons : (r : Logged) (l : List Logged) (b : ℕ)
       → share (r ∷ l) b ≡ cond (eqb (r .entry .outcome) outcome && passes (r .entry .block)) (bit (eqb b (r .entry .block))) 0 + share l b
-  share-cons r l b =
-      cases (eqb b (r .entry .block))
-      (λ e. rw e (let is = eqb-true _ _ e in
-      subst (λ (i : ℕ). share (r ∷ l) b ≡ cond (o && passes i) 1 0 + share l b) is
-      (one o _ _ _
-      (cc (at-block-cons outcome b r l, eq-eqb _ b (sym is))))))
-      (λ e. rw e (none o _ (passes b) _ _
-      (cc (at-block-cons outcome b r l, ne-eqb _ b (λ q. eqb-false _ _ e (sym q))))))
+  share-cons r l b = go (eqb b (r .entry .block)) refl
     where
       o : Bool
       o = eqb (r .entry .outcome) outcome
@@ -51,10 +47,21 @@ module _ (m : BlockModel) (outcome : ℕ) (p : Facts → Bool) where
       one false true n k e = e
       one false false n k e = refl
 
+      go : (c : Bool) → eqb b (r .entry .block) ≡ c → share (r ∷ l) b ≡ cond (o && passes (r .entry .block)) (bit c) 0 + share l b
+      go true e =
+          let is : b ≡ r .entry .block = eqb-true _ _ e in
+          subst (λ (i : ℕ). share (r ∷ l) b ≡ cond (o && passes i) 1 0 + share l b) is
+          (one o (passes b) _ _
+          (at-block-cons outcome b r l ∙ ap (λ (x : Bool). bit (o && x) + atBlock outcome b l) (eq-eqb (r .entry .block) b (sym is))))
+      go false e =
+          none o (passes (r .entry .block)) (passes b) _ _
+          (at-block-cons outcome b r l
+          ∙ ap (λ (x : Bool). bit (o && x) + atBlock outcome b l) (ne-eqb (r .entry .block) b (λ q. eqb-false _ _ e (sym q))))
+
   records-cons : (r : Logged) (l : List Logged)
       → recordsAt m outcome p (r ∷ l) ≡ bit (eqb (r .entry .outcome) outcome && passes (r .entry .block)) + recordsAt m outcome p l
   unfolding recordsAt
-  records-cons r l = cc counted
+  records-cons r l = counted ∙ refl
     where
       test : Logged → Bool
       test r = eqb (r .entry .outcome) outcome && p (facts (blockAt m (r .entry .block)))
@@ -62,8 +69,9 @@ module _ (m : BlockModel) (outcome : ℕ) (p : Facts → Bool) where
       counted : length (those test (r ∷ l)) ≡ bit (test r) + length (those test l)
       counted = unfold count in count-cons test r l
 
-  pub records-tallied : (l : List Logged) → Each (λ (r : Logged). InModel m (r .entry)) l → recordsAt m outcome p l ≡ upTo (length (m .blocks)) (share l)
-  records-tallied [] h = cc (empty, upTo-zero _ _ (λ k low high. nothing k))
+  pub records-tallied : (l : List Logged) → Each (λ (r : Logged). InModel m (r .entry)) l
+      → recordsAt m outcome p l ≡ upTo (length (m .blocks)) (share l)
+  records-tallied [] h = empty ∙ sym (upTo-zero (length (m .blocks)) (share []) (λ k low high. nothing k))
     where
       empty : recordsAt m outcome p [] ≡ 0
       empty = unfold recordsAt those in refl
@@ -79,14 +87,17 @@ module _ (m : BlockModel) (outcome : ℕ) (p : Facts → Bool) where
         arith,
         records-cons r l,
         records-tallied l (h .1),
-        upTo-cong _ (λ b. cond (eqb _ outcome && passes _) _ 0 + share l b) (length (m .blocks)) (λ b low high. share-cons r l b),
-        upTo-add (λ b. cond (eqb (r .entry .outcome) outcome && passes (r .entry .block)) (bit (eqb b (r .entry .block))) 0) (share l) (length (m .blocks)),
-        own (eqb (r .entry .outcome) outcome && passes (r .entry .block)) _ (h .0 .block),
+        upTo-cong (share (r ∷ l))
+            (λ b. cond (eqb (r .entry .outcome) outcome && passes (r .entry .block)) (bit (eqb b (r .entry .block))) 0 + share l b)
+            (length (m .blocks)) (λ b low high. share-cons r l b),
+        upTo-add (λ b. cond (eqb (r .entry .outcome) outcome && passes (r .entry .block)) (bit (eqb b (r .entry .block))) 0) (share l)
+            (length (m .blocks)),
+        own (eqb (r .entry .outcome) outcome && passes (r .entry .block)) (r .entry .block) (h .0 .block),
       )
     where
       own : (c : Bool) (i : ℕ) → Names (length (m .blocks)) i → upTo (length (m .blocks)) (λ b. cond c (bit (eqb b i)) 0) ≡ bit c
-      own true i names = upTo-one _ i (names .0) (names .1)
-      own false i names = upTo-zero _ (λ b. 0) (λ k low high. refl)
+      own true i names = upTo-one (length (m .blocks)) i (names .0) (names .1)
+      own false i names = upTo-zero (length (m .blocks)) (λ b. 0) (λ k low high. refl)
 
 -- ---- In the order of writing
 
@@ -94,10 +105,13 @@ ranges-end : (k : List Record) (r : Record) → AllInRanges k → AllInRanges (r
 ranges-end [] r h e = e
 ranges-end (x ∷ k) r h e = (h .0, ranges-end k r (h .1) e)
 
-all-in-ranges : (m : BlockModel) → m .rules ≡ inForce → (l : List Logged) → Each (λ (r : Logged). InModel m (r .entry)) l → AllInRanges (inOrder l)
+all-in-ranges : (m : BlockModel) → m .rules ≡ inForce → (l : List Logged) → Each (λ (r : Logged). InModel m (r .entry)) l
+    → AllInRanges (inOrder l)
 all-in-ranges m rules [] h = tt
 all-in-ranges m rules (r ∷ l) h =
-    rw (in-order-cons r l) (ranges-end (inOrder l) _ (all-in-ranges m rules l (h .1)) (rw rules at (h .0 .ranges), tt))
+    subst AllInRanges (sym (in-order-cons r l))
+    (ranges-end (inOrder l) (r .entry) (all-in-ranges m rules l (h .1))
+    (subst (λ (q : Rules). inRanges q (r .entry) ≡ true) rules (h .0 .ranges), tt))
 
 pub traced-ranges : {m : BlockModel} {room : ℕ} (s : State) → Traced m room s → AllInRanges (recordsOf s)
 unfolding recordsOf

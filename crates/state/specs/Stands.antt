@@ -26,7 +26,8 @@ abbrev pub interruptedRow : Interrupted → Transaction
 interruptedRow i = withStamp (i .remaining) (i .who)
 
 -- list p of the work buffer: QL 0..63, WEL 64..447, WSL 448, REL 449, gatherers 450..705, interrupted ones 706..769
-unfoldable pub listsIn : (ql wel : List (List Transaction)) (wsl rel : List Transaction) → List (List Gatherer) → List Interrupted → ℕ → List Transaction
+unfoldable pub listsIn : (ql wel : List (List Transaction)) (wsl rel : List Transaction) → List (List Gatherer) → List Interrupted → ℕ
+    → List Transaction
 listsIn ql wel waiting ready gather stopped p =
     cond (ltb p wels) (getD ql p [])
     (cond (ltb p wsl) (getD wel (p - wels) [])
@@ -45,7 +46,8 @@ Moving work k (some t) = Loose work k × (transactionAt work k ≡ t)
 
 -- ---- Lists
 
-pub record Listed (work : List ℕ) (moving : ℕ) (o : Option Transaction) (lists : ℕ → List Transaction) (fel : List Event) (living : ℕ) : Type 0 where
+pub record Listed (work : List ℕ) (moving : ℕ) (o : Option Transaction) (lists : ℕ → List Transaction) (fel : List Event)
+    (living : ℕ) : Type 0 where
   pub shows : Shows work lists fel
   pub mover : Moving work moving o
   -- a free row for each transaction that may still live
@@ -78,15 +80,21 @@ pub record Serving (tally : List ℕ) (clock : ℕ) (servers : List Server) (ql 
   pub holders : (v : ℕ) → v < Layout.serverCount → getD tally (Layout.holder + v) 0 ≡ getD servers v (idleServer 0) .holder
   pub preempts : (v : ℕ) → v < Layout.serverCount → getD tally (Layout.preempted + v) 0 ≡ bit (getD servers v (idleServer 0) .preempted)
   pub held : (r : ℕ) → r < Layout.residues → getD tally (Layout.held + r) 0 ≡ heldIn servers r
-  pub unit-ticks : (v : ℕ) → v < Layout.serverCount → sumNow tally (Layout.unitTicks + v) (Layout.inUse + v) v clock ≡ getD servers v (idleServer 0) .unitTicks
-  pub wait-ticks : (v : ℕ) → v < Layout.serverCount → sumNow tally (Layout.waitTicks + v) (Layout.qlLength + v) v clock ≡ getD servers v (idleServer 0) .waitTicks
-  pub longest : (v : ℕ) → v < Layout.serverCount → longestNow tally (Layout.longestQl + v) (Layout.qlLength + v) v ≡ getD servers v (idleServer 0) .longest
+  pub unit-ticks : (v : ℕ) → v < Layout.serverCount
+      → sumNow tally (Layout.unitTicks + v) (Layout.inUse + v) v clock ≡ getD servers v (idleServer 0) .unitTicks
+  pub wait-ticks : (v : ℕ) → v < Layout.serverCount
+      → sumNow tally (Layout.waitTicks + v) (Layout.qlLength + v) v clock ≡ getD servers v (idleServer 0) .waitTicks
+  pub longest : (v : ℕ) → v < Layout.serverCount
+      → longestNow tally (Layout.longestQl + v) (Layout.qlLength + v) v ≡ getD servers v (idleServer 0) .longest
   pub waiting : (v : ℕ) → v < Layout.serverCount → getD tally (Layout.qlLength + v) 0 ≡ length (getD ql v [])
 
 pub record Queueing (tally : List ℕ) (clock : ℕ) (queues : List Queue) : Type 0 where
   pub contents : (q : ℕ) → q < maxQueues → getD tally (Layout.content + q) 0 ≡ getD queues q emptyQueue .content
-  pub content-ticks : (q : ℕ) → q < maxQueues → sumNow tally (Layout.contentTicks + q) (Layout.content + q) (Layout.serverCount + q) clock ≡ getD queues q emptyQueue .contentTicks
-  pub longest : (q : ℕ) → q < maxQueues → longestNow tally (Layout.longestContent + q) (Layout.content + q) (Layout.serverCount + q) ≡ getD queues q emptyQueue .longest
+  pub content-ticks : (q : ℕ) → q < maxQueues
+      → sumNow tally (Layout.contentTicks + q) (Layout.content + q) (Layout.serverCount + q) clock
+      ≡ getD queues q emptyQueue .contentTicks
+  pub longest : (q : ℕ) → q < maxQueues
+      → longestNow tally (Layout.longestContent + q) (Layout.content + q) (Layout.serverCount + q) ≡ getD queues q emptyQueue .longest
 
 pub record Sampling (tapeBytes tally : List ℕ) (samples : List (List ℕ)) : Type 0 where
   pub begins : (l : ℕ) → l < length samples → TimesAt tapeBytes (getD tally (Layout.listAt + l) 0) (getD samples l [])
@@ -96,7 +104,8 @@ pub record Sampling (tapeBytes tally : List ℕ) (samples : List (List ℕ)) : T
 unfoldable pub atBlock : (outcome block : ℕ) → List Logged → ℕ
 atBlock outcome block l = count (λ r. eqb (r .entry .outcome) outcome && eqb (r .entry .block) block) l
 
-pub record Tallied (tapeBytes tally : List ℕ) (view : View) (ql : List (List Transaction)) (times : List (List ℕ)) (turns : ℕ) (records : List Logged) : Type 0 where
+pub record Tallied (tapeBytes tally : List ℕ) (view : View) (ql : List (List Transaction)) (times : List (List ℕ))
+    (turns : ℕ) (records : List Logged) : Type 0 where
   pub size : length tally ≡ Layout.tallySize
   pub entries : (b : ℕ) → b < maxBlocks → getD tally (Layout.entries + b) 0 ≡ getD (view .entries) b 0
   -- of the blocks from 1 on, records of outcome 1

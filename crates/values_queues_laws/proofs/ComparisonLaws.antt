@@ -19,7 +19,8 @@ use Rattle.moves.proofs.MotionLaws.{go-to-done, go-on-done, puts-wsl, wait-on-d
 use Rattle.values_queues_laws.specs.{parametersAt, holdsAt, worthAt, setParameter, heldAt, waitTermsRows, branchRows, assignRows, gotoRows}
 use Rattle.values_queues_laws.proofs.{Sees.sane-low, Sees.sees, Sharing.sides-law, Parameters.signed-toZ, Parameters.parameters-are, Parameters.evaluate-small, Operands.assign-term, Operands.branch-target}
 
-module _ {m : BlockModel} {tape : List (List ℕ)} {tapeBytes tables lists w tally : List ℕ} {x : Scalars} {t : Transaction} {s : State} {block : Block}
+module _ {m : BlockModel} {tape : List (List ℕ)} {tapeBytes tables lists w tally : List ℕ} {x : Scalars} {t : Transaction} {s : State}
+    {block : Block}
     (h : Before m tape tapeBytes tables lists w tally x t s block) where
   abbrev s₀ : State
   s₀ = setMoving none s
@@ -31,7 +32,8 @@ module _ {m : BlockModel} {tape : List (List ℕ)} {tapeBytes tables lists w tal
   own = cc (parameters-are w (x .moving), h .listing .mover .1)
 
   holds-is : (a : Term) (o : Relation) (b : Term)
-      → compareAt tables tally (length (m .values)) (x .clock) (parametersAt w (x .moving)) (placeOf t + 1) ≡ compare (m .values) (s .view) (parametersOf (parametersAt w (x .moving))) a o b
+      → compareAt tables tally (length (m .values)) (x .clock) (parametersAt w (x .moving)) (placeOf t + 1)
+      ≡ compare (m .values) (s .view) (parametersOf (parametersAt w (x .moving))) a o b
       → holdsAt tables (length (m .values)) w tally (x .clock) (x .moving) (placeOf t) ≡ compare (m .values) (s .view) (t .parameters) a o b
   unfolding holdsAt
   holds-is a o b e = cc (e, own)
@@ -53,37 +55,50 @@ module _ {m : BlockModel} {tape : List (List ℕ)} {tapeBytes tables lists w tal
 
   wait-on : Done tapeBytes (withTally (waitOn w x wsl 1) tally) (waiting Moves.toWsl t s₀)
   unfolding Moves.toWsl
-  wait-on = wait-on-done x s₀ (h .listing) (h .counting) 1 wsl (omega arith) Moves.toWsl refl (serial-low h) (puts-wsl s₀ sorted) (puts-wsl _ sorted) (h .tallying) (h .tallying)
+  wait-on =
+      wait-on-done x s₀ (h .listing) (h .counting) 1 wsl (omega arith) Moves.toWsl refl (serial-low h) (puts-wsl s₀ sorted)
+      (puts-wsl _ sorted) (h .tallying) (h .tallying)
 
 module _ {m : BlockModel} {tape : List (List ℕ)} {tapeBytes tables lists w tally : List ℕ} {x : Scalars} {t : Transaction} {s : State} where
   -- ---- 9 WAITIF
 
   pub wait-terms-done : {a : Term} {o : Relation} {b : Term} → Before m tape tapeBytes tables lists w tally x t s (waitTerms a o b)
-      → Done tapeBytes (withTally (waitTermsRows tables (length (m .values)) w tally x (placeOf t)) tally) (bareBlock m (waitTerms a o b) t s)
+      → Done tapeBytes (withTally (waitTermsRows tables (length (m .values)) w tally x (placeOf t)) tally)
+      (bareBlock m (waitTerms a o b) t s)
   unfolding waitTermsRows question bareAnswer bare
   wait-terms-done {a} {o} {b} h =
       rw (held-is h a o b (h .is)) (go (compare _ _ _ a o b))
     where
-      go : (c : Bool) → Done tapeBytes (withTally (cond c (waitOn w x wsl 1) (goOn w x)) tally) (cond c (waiting Moves.toWsl t (setMoving none s)) (entering (Moves.goOn t (setMoving none s))))
+      go : (c : Bool)
+          → Done tapeBytes (withTally (cond c (waitOn w x wsl 1) (goOn w x)) tally)
+          (cond c (waiting Moves.toWsl t (setMoving none s)) (entering (Moves.goOn t (setMoving none s))))
       go true = wait-on h
       go false = go-on h
 
   -- ---- 10 IF
 
-  pub branch-done : {a : Term} {o : Relation} {b : Term} {target : ℕ} → Before m tape tapeBytes tables lists w tally x t s (branch a o b target)
-      → Done tapeBytes (withTally (branchRows tables (length (m .values)) w tally x (placeOf t)) tally) (bareBlock m (branch a o b target) t s)
+  pub branch-done : {a : Term} {o : Relation} {b : Term} {target : ℕ}
+      → Before m tape tapeBytes tables lists w tally x t s (branch a o b target)
+      → Done tapeBytes (withTally (branchRows tables (length (m .values)) w tally x (placeOf t)) tally)
+      (bareBlock m (branch a o b target) t s)
   unfolding branchRows question bareAnswer bare truth
   branch-done {a} {o} {b} {target} h =
-      rw (holds-is h a o b (if-law (h .rep) (h .nested) (seen h) _ _ (inside h) a o b target (h .is)), branch-target (h .rep) _ (inside h) (h .nested) a o b target (h .is))
+      rw (
+        holds-is h a o b (if-law (h .rep) (h .nested) (seen h) _ _ (inside h) a o b target (h .is)),
+        branch-target (h .rep) _ (inside h) (h .nested) a o b target (h .is),
+      )
       (go (compare _ _ _ a o b))
     where
-      go : (c : Bool) → Done tapeBytes (withTally (cond c (goTo w x target) (goOn w x)) tally) (entering (Moves.moveTo (cond c target (suc (t .next))) t (setMoving none s)))
+      go : (c : Bool)
+          → Done tapeBytes (withTally (cond c (goTo w x target) (goOn w x)) tally)
+          (entering (Moves.moveTo (cond c target (suc (t .next))) t (setMoving none s)))
       go true = go-to h target
       go false = go-on h
 
   -- ---- 11 GOTO
 
-  pub goto-done : {target : ℕ} → Before m tape tapeBytes tables lists w tally x t s (goto target) → Done tapeBytes (withTally (gotoRows tables w x (placeOf t)) tally) (bareBlock m (goto target) t s)
+  pub goto-done : {target : ℕ} → Before m tape tapeBytes tables lists w tally x t s (goto target)
+      → Done tapeBytes (withTally (gotoRows tables w x (placeOf t)) tally) (bareBlock m (goto target) t s)
   unfolding gotoRows question bareAnswer bare truth blockForms
   goto-done {target} h = rw (operand h 1 (omega arith)) (go-to h target)
 
@@ -106,7 +121,12 @@ module _ {m : BlockModel} {tape : List (List ℕ)} {tapeBytes tables lists w tal
   stored =
       let p = parametersAt w (x .moving) in
       let ok = assign-term (h .rep) _ (inside h) (h .nested) k a (h .is) in
-      rw (← signed-toZ _, let-law (h .rep) (h .nested) (seen h) p (t .next - 1) (inside h) k a (h .is), signed-low _ (evaluate-small (seen h) p (m .values) a (ok .0) (ok .1)), own h)
+      rw (
+        ← signed-toZ _,
+        let-law (h .rep) (h .nested) (seen h) p (t .next - 1) (inside h) k a (h .is),
+        signed-low _ (evaluate-small (seen h) p (m .values) a (ok .0) (ok .1)),
+        own h,
+      )
 
   named : (1 ≤ k) × (k ≤ 4)
   named = proper-block h
@@ -121,6 +141,7 @@ module _ {m : BlockModel} {tape : List (List ℕ)} {tapeBytes tables lists w tal
       (write-parameter w _ (h .listing .shows .shown .holds .room) (h .listing .mover .0 .row) _ worth (omega (arith, named .1))
       ∙ rw (stored, h .listing .mover .1))
 
-  pub assign-done : Done tapeBytes (withTally (assignRows tables (length (m .values)) w tally x (placeOf t)) tally) (bareBlock m (assign k a) t s)
+  pub assign-done : Done tapeBytes (withTally (assignRows tables (length (m .values)) w tally x (placeOf t)) tally)
+      (bareBlock m (assign k a) t s)
   unfolding assignRows question bareAnswer bare
   assign-done = rw written (go-on-done x _ listing (h .tallying) (h .counting) (next-low h))

@@ -6,6 +6,7 @@ use Rattle.layout.specs.All.{Represents}
 use Rattle.evaluation.specs.Sees.{Sees}
 use Rattle.state.specs.{All.Tallying, All.Counting, declared.scalars.Scalars.Scalars}
 use Rattle.state.proofs.Sane.{Sane}
+use mathlib.Core.Path.{ap, _∙_}
 
 -- ---- Capacities
 
@@ -35,7 +36,7 @@ module _ {m : BlockModel} {s : State} (lows : Low m s) where
   capacity-is : (v : ℕ) → getD (s .view .servers) v (idleServer 0) .capacity ≡ getD (allCapacities m) v 0
   unfolding idleServer
   capacity-is v =
-      cc (List·getD-map capacityOf (s .view .servers) v (idleServer 0), lows .shape .capacities)
+      sym (List·getD-map capacityOf (s .view .servers) v (idleServer 0)) ∙ ap (λ (l : List ℕ). getD l v 0) (lows .shape .capacities)
 
   capacity-low : {tape : List (List ℕ)} → Proper m tape → (v : ℕ) → getD (s .view .servers) v (idleServer 0) .capacity ≤ maxCapacity
   capacity-low proper v =
@@ -43,7 +44,7 @@ module _ {m : BlockModel} {s : State} (lows : Low m s) where
 
   in-use-low : (v : ℕ) → getD (s .view .servers) v (idleServer 0) .inUse ≤ getD (s .view .servers) v (idleServer 0) .capacity
   unfolding idleServer
-  in-use-low v = each-getD Within (s .view .servers) v _ (lows .shape .within) (omega arith)
+  in-use-low v = each-getD Within (s .view .servers) v (idleServer 0) (lows .shape .within) (omega arith)
 
   entries-low : (b : ℕ) → getD (s .view .entries) b 0 ≤ s .turns
   entries-low b = each-getD (λ (n : ℕ). n ≤ s .turns) (s .view .entries) b 0 (lows .entries) (omega arith)
@@ -53,7 +54,10 @@ module _ {m : BlockModel} {s : State} (lows : Low m s) where
   content-low q =
       each-getD (λ (a : Queue). a .content ≤ s .turns) (s .view .queues) q emptyQueue (lows .contents) (omega arith)
 
-  pub sees : {tape : List (List ℕ)} {tapeBytes tables lists tally : List ℕ} (x : Scalars) → Proper m tape → Represents m tape tapeBytes tables lists → Tallying tapeBytes tally s → Counting x s
+  -- the tables and the tally show what terms read of the state
+  pub sees : {tape : List (List ℕ)} {tapeBytes tables lists tally : List ℕ} (x : Scalars) → Proper m tape
+      → Represents m tape tapeBytes tables lists → Tallying tapeBytes tally s
+      → Counting x s
       → Sees (s .view) tables tally (x .clock)
   sees x proper rep tallying counting =
       record {
@@ -61,15 +65,15 @@ module _ {m : BlockModel} {s : State} (lows : Low m s) where
         entries =
             record {
               shown = λ b hb. sym (tallying .entries b hb);
-              small = λ b hb. omega (arith, entries-low b);
+              small = λ b hb. omega (arith, entries-low b, lows .turns);
             };
-        entries-size = omega arith;
+        entries-size = omega (arith, lows .shape .entry-length, proper .blocks .1);
         contents =
             record {
               shown = λ q hq. sym (tallying .queues .contents q hq);
-              small = λ q hq. omega (arith, content-low q);
+              small = λ q hq. omega (arith, content-low q, lows .turns);
             };
-        queues-size = omega arith;
+        queues-size = omega (arith, lows .shape .queue-length, proper .queues);
         in-use =
             record {
               shown = λ v hv. sym (tallying .servers .in-use v hv);
@@ -77,8 +81,8 @@ module _ {m : BlockModel} {s : State} (lows : Low m s) where
             };
         capacities =
             record {
-              shown = λ v hv. cc (capacity-is v, rep .capacities v hv);
+              shown = λ v hv. capacity-is v ∙ sym (rep .capacities v hv);
               small = λ v hv. omega (arith, capacity-low proper v);
             };
-        servers-size = omega (arith, server-length (lows .shape), proper .storages);
+        servers-size = omega (arith, server-length (lows .shape), proper .facilities, proper .storages);
       }

@@ -24,7 +24,8 @@ module _ (tables : List ℕ) (blocks values : ℕ) (tally : List ℕ) (clock : �
 
   -- of a row that stands at `at`, by answers for all that stand there
   unfoldable pub leavesBy : (w : List ℕ) (k at left right : ℕ) → Bool
-  leavesBy w k at left right = leavesFrom tables blocks (sideBy tables values tally clock left w k) (sideBy tables values tally clock right w k) at
+  leavesBy w k at left right =
+      leavesFrom tables blocks (sideBy tables values tally clock left w k) (sideBy tables values tally clock right w k) at
 
 unfoldable pub wsScheme : (tables : List ℕ) (blocks values : ℕ) (tally : List ℕ) (x : Scalars) (w : List ℕ) → List ℕ
 wsScheme tables blocks values tally x w =

@@ -5,9 +5,13 @@ use Rattle.state.proofs.statistics.longest_now as f
 
 returns : f.Tie.Need-returns
 unfolding longestNow
-returns c =
-    let b = c .before .before in
-    rw (← b .before .before .behind .ensures, b .before .if1 .taken, ← b .count .ensures, ← c .before .count2 .ensures) (c .larger .ensures)
+returns c = rw (
+  ← c .before .before .before .before .behind .ensures,
+  c .before .before .before .if1 .taken,
+  ← c .before .before .count .ensures,
+  ← c .before .count2 .ensures,
+)
+    (c .larger .ensures)
 
 returns-2 : f.Tie.Need-returns-2
 unfolding longestNow
