@@ -106,7 +106,8 @@ pub fn wait_terms(
     requires { ⌜ at < programSize ⌝ }
     requires { ⌜ Room (now work) ⌝ }
     requires { ⌜ x .moving < rowCount ⌝ }
-    ensures { λ r. ⌜ moved r (now (work .exit)) ≡ waitTermsRows (now (tables .entry)) values (now (work .entry)) (now (tally .entry)) x at ⌝ }
+    ensures { λ r. ⌜ moved r (now (work .exit))
+        ≡ waitTermsRows (now (tables .entry)) values (now (work .entry)) (now (tally .entry)) x at ⌝ }
 {
     let k = x.moving;
     let clock = x.clock;

@@ -45,7 +45,8 @@ pub fn arrive(tables: &[u32], work: &mut [u32], tally: &mut [u64], x: Scalars, a
     requires { ⌜ at < programSize ⌝ }
     requires { ⌜ Room (now work) ⌝ }
     requires { ⌜ x .moving < rowCount ⌝ }
-    ensures { λ r. ⌜ rowsOf r (now (work .exit)) (now (tally .exit)) ≡ arriveRows (now (tables .entry)) (now (work .entry)) (now (tally .entry)) x at ⌝ }
+    ensures { λ r. ⌜ rowsOf r (now (work .exit)) (now (tally .exit))
+        ≡ arriveRows (now (tables .entry)) (now (work .entry)) (now (tally .entry)) x at ⌝ }
 {
     let q = queue_at(tables, at);
     change(work, tally, x, q, plus64(count(tally, CONTENT + q), 1))
@@ -56,7 +57,8 @@ pub fn depart(tables: &[u32], work: &mut [u32], tally: &mut [u64], x: Scalars, a
     requires { ⌜ at < programSize ⌝ }
     requires { ⌜ Room (now work) ⌝ }
     requires { ⌜ x .moving < rowCount ⌝ }
-    ensures { λ r. ⌜ rowsOf r (now (work .exit)) (now (tally .exit)) ≡ departRows (now (tables .entry)) (now (work .entry)) (now (tally .entry)) x at ⌝ }
+    ensures { λ r. ⌜ rowsOf r (now (work .exit)) (now (tally .exit))
+        ≡ departRows (now (tables .entry)) (now (work .entry)) (now (tally .entry)) x at ⌝ }
 {
     let q = queue_at(tables, at);
     let content = count(tally, CONTENT + q);

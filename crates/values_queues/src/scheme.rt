@@ -91,8 +91,12 @@ fn step(
     requires { ⌜ blocks ≤ maxBlocks ⌝ }
     requires { ⌜ Room (now work) ⌝ }
     requires { ⌜ k < rowCount ⌝ }
-    ensures cell { λ r. ⌜ r ≡ passCell (leavesBy (now (tables .entry)) blocks values (now (tally .entry)) clock (now (work .entry)) k at left right) (now (work .entry)) cell ⌝ }
-    ensures rows { λ _. ⌜ now (work .exit) ≡ passRows (leavesBy (now (tables .entry)) blocks values (now (tally .entry)) clock (now (work .entry)) k at left right) (now (work .entry)) wsl cell ⌝ }
+    ensures cell { λ r. ⌜ r
+        ≡ passCell (leavesBy (now (tables .entry)) blocks values (now (tally .entry)) clock (now (work .entry)) k at left right)
+        (now (work .entry)) cell ⌝ }
+    ensures rows { λ _. ⌜ now (work .exit)
+        ≡ passRows (leavesBy (now (tables .entry)) blocks values (now (tally .entry)) clock (now (work .entry)) k at left right)
+        (now (work .entry)) wsl cell ⌝ }
 {
     let moves = leaves(
         tables,

@@ -83,7 +83,8 @@ pub fn shared(
     known: u64,
     at: usize,
 ) -> u64
-    ensures { λ r. ⌜ (ForAll (now (tables .entry)) values (now (tally .entry)) clock seen known → ForAll (now (tables .entry)) values (now (tally .entry)) clock at r) ⌝ }
+    ensures { λ r. ⌜ (ForAll (now (tables .entry)) values (now (tally .entry)) clock seen known
+        → ForAll (now (tables .entry)) values (now (tally .entry)) clock at r) ⌝ }
 {
     if seen == at {
         return known;

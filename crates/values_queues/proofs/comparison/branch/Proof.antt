@@ -1,18 +1,36 @@
 -- `branch` meets its contract, by cases on the comparison.
 use Rattle.machine.specs.All.{_∙_, needs}
 use Rattle.values_queues_laws.specs.Comparison.{branchRows}
-use Rattle.values_queues.proofs.comparison.branch as f
+use Rattle.values_queues.proofs.comparison.branch.Statement.{statement}
+use Rattle.values_queues.proofs.comparison.branch.Tie as tie
 
-pub branch-spec : {M : Type 1} → f.Statement.statement M
+taken : tie.Need-returns
+unfolding branchRows
+taken c =
+    let at-go-to : tie.After-go-to = search in
+    let at-number : tie.After-number = search in
+    let at-then1 : tie.Then1 = search in
+    let at-holds : tie.After-holds = search in
+    rw (← at-holds .holds .ensures, at-then1 .if1 .taken) (at-go-to .go-to .ensures ∙ rw (at-number .number .ensures))
+
+goes-on : tie.Need-returns-2
+unfolding branchRows
+goes-on c =
+    let at-go-on : tie.After-go-on = search in
+    let at-else1 : tie.Else1 = search in
+    let at-holds : tie.After-holds = search in
+    rw (← at-holds .holds .ensures, at-else1 .if1 .left) (at-go-on .go-on .ensures)
+
+pub branch-spec : {M : Type 1} → statement M
 branch-spec =
-    f.Tie.close
-    (f.Tie.spec
+    tie.close
+    (tie.spec
     (search needs)
     (search needs)
     (search needs)
     (search needs)
     (search needs)
-    (λ c. let b = c .before .before in unfold branchRows in rw (← b .before .before .before .before .before .holds .ensures, b .before .before .before .before .if1 .taken) (b .go-to .ensures ∙ rw (b .before .number .ensures)))
+    taken
     (search needs)
     (search needs)
-    (λ c. let b = c .before .before in unfold branchRows in rw (← b .before .before .before .holds .ensures, b .before .before .if1 .left) (b .go-on .ensures)))
+    goes-on)

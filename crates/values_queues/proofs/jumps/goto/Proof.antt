@@ -1,7 +1,15 @@
 -- `goto` meets its contract: it goes to the block that the tables name.
 use Rattle.machine.specs.All.{_∙_, needs}
 use Rattle.values_queues_laws.specs.Jumps.{gotoRows}
-use Rattle.values_queues.proofs.jumps.goto as f
+use Rattle.values_queues.proofs.jumps.goto.Statement.{statement}
+use Rattle.values_queues.proofs.jumps.goto.Tie as tie
 
-pub goto-spec : {M : Type 1} → f.Statement.statement M
-goto-spec = f.Tie.close (f.Tie.spec (search needs) (search needs) (search needs) (search needs) (λ c. unfold gotoRows in c .before .before .go-to .ensures ∙ rw (c .before .before .before .number .ensures)))
+returns : tie.Need-returns
+unfolding gotoRows
+returns c =
+    let at-go-to : tie.After-go-to = search in
+    let at-number : tie.After-number = search in
+    at-go-to .go-to .ensures ∙ rw (at-number .number .ensures)
+
+pub goto-spec : {M : Type 1} → statement M
+goto-spec = tie.close (tie.spec (search needs) (search needs) (search needs) (search needs) returns)

@@ -2,7 +2,16 @@
 use Rattle.machine.specs.All.{_∙_, needs}
 use Rattle.values_queues_laws.specs.Queues.{change}
 use Rattle.moves.proofs.MotionLaws.{tallied}
-use Rattle.values_queues.proofs.queues.change as f
+use Rattle.values_queues.proofs.queues.change.Statement.{statement}
+use Rattle.values_queues.proofs.queues.change.Tie as tie
 
-pub change-spec : {M : Type 1} → f.Statement.statement M
-change-spec = f.Tie.close (f.Tie.spec (search needs) (search needs) (search needs) (search needs) (search needs) (search needs) (λ c. unfold change in tallied _ _ _ _ _ (c .before .before .go-on .ensures) (c .before .before .before .before .before .before .set-count .ensures ∙ rw (c .before .before .before .before .before .before .before .before .before .before .update-queue .ensures))))
+returns : tie.Need-returns
+unfolding change
+returns c =
+    let at-go-on : tie.After-go-on = search in
+    let at-set-count : tie.After-set-count = search in
+    let at-update-queue : tie.After-update-queue = search in
+    tallied _ _ _ _ _ (at-go-on .go-on .ensures) (at-set-count .set-count .ensures ∙ rw (at-update-queue .update-queue .ensures))
+
+pub change-spec : {M : Type 1} → statement M
+change-spec = tie.close (tie.spec (search needs) (search needs) (search needs) (search needs) (search needs) (search needs) returns)
