@@ -38,7 +38,10 @@ fn act(
     requires { ⌜ facilities ≤ maxFacilities ⌝ }
     requires { ⌜ Room (now work) ⌝ }
     requires { ⌜ x .moving < rowCount ⌝ }
-    ensures { λ r. ⌜ traced (rowsOf r (now (work .exit)) (now (tally .exit))) (now (trace .exit)) ≡ act (now (tables .entry)) values facilities (now (tape .entry)) (now (work .entry)) (now (tally .entry)) (now (trace .entry)) x number block ⌝ }
+    ensures { λ r. ⌜
+        traced (rowsOf r (now (work .exit)) (now (tally .exit))) (now (trace .exit))
+        ≡ act (now (tables .entry)) values facilities (now (tape .entry)) (now (work .entry)) (now (tally .entry))
+        (now (trace .entry)) x number block ⌝ }
 {
     let b = less32(block, 1) as usize;
     if b >= Model::MAX_BLOCKS {
@@ -70,7 +73,10 @@ fn act_moving(
 ) -> Scalars
     requires { ⌜ facilities ≤ maxFacilities ⌝ }
     requires { ⌜ Room (now work) ⌝ }
-    ensures { λ r. ⌜ traced (rowsOf r (now (work .exit)) (now (tally .exit))) (now (trace .exit)) ≡ actMoving (now (tables .entry)) values facilities (now (tape .entry)) (now (work .entry)) (now (tally .entry)) (now (trace .entry)) x ⌝ }
+    ensures { λ r. ⌜
+        traced (rowsOf r (now (work .exit)) (now (tally .exit))) (now (trace .exit))
+        ≡ actMoving (now (tables .entry)) values facilities (now (tape .entry)) (now (work .entry)) (now (tally .entry))
+        (now (trace .entry)) x ⌝ }
 {
     let k = x.moving;
     if k >= ROWS {
@@ -161,7 +167,9 @@ fn scheme_after(
 )
     requires { ⌜ blocks ≤ maxBlocks ⌝ }
     requires { ⌜ Room (now work) ⌝ }
-    ensures { λ _. ⌜ now (work .exit) ≡ schemeIf (asks (now (tables .entry)) before (x .clock) block) (now (tables .entry)) blocks values (now (tally .entry)) x (now (work .entry)) ⌝ }
+    ensures { λ _. ⌜
+        now (work .exit) ≡ schemeIf (asks (now (tables .entry)) before (x .clock) block) (now (tables .entry)) blocks values
+        (now (tally .entry)) x (now (work .entry)) ⌝ }
 {
     if first(work, WSL) >= ROWS {
         return;
@@ -184,7 +192,10 @@ fn after_taking(
     requires { ⌜ model .facilities ≤ maxFacilities ⌝ }
     requires { ⌜ model .blocks ≤ maxBlocks ⌝ }
     requires { ⌜ Room (now work) ⌝ }
-    ensures { λ r. ⌜ traced (rowsOf r (now (work .exit)) (now (tally .exit))) (now (trace .exit)) ≡ afterTaking (now (tables .entry)) (model .blocks) (model .values) (model .facilities) (now (tape .entry)) (now (trace .entry)) before (rowsOf x (now (work .entry)) (now (tally .entry))) ⌝ }
+    ensures { λ r. ⌜
+        traced (rowsOf r (now (work .exit)) (now (tally .exit))) (now (trace .exit))
+        ≡ afterTaking (now (tables .entry)) (model .blocks) (model .values) (model .facilities) (now (tape .entry))
+        (now (trace .entry)) before (rowsOf x (now (work .entry)) (now (tally .entry))) ⌝ }
 {
     let block = next_of(work, x.moving);
     let y = act_moving(
@@ -222,7 +233,9 @@ pub fn turn(
     requires { ⌜ model .facilities ≤ maxFacilities ⌝ }
     requires { ⌜ model .blocks ≤ maxBlocks ⌝ }
     requires { ⌜ Room (now work) ⌝ }
-    ensures { λ r. ⌜ traced (rowsOf r (now (work .exit)) (now (tally .exit))) (now (trace .exit)) ≡ turn model (now (tables .entry)) (now (tape .entry)) (now (work .entry)) (now (tally .entry)) (now (trace .entry)) x ⌝ }
+    ensures { λ r. ⌜
+        traced (rowsOf r (now (work .exit)) (now (tally .exit))) (now (trace .exit))
+        ≡ turn model (now (tables .entry)) (now (tape .entry)) (now (work .entry)) (now (tally .entry)) (now (trace .entry)) x ⌝ }
 {
     let before = x.clock;
     let y = take(work, tally, x);

@@ -64,7 +64,8 @@ pub fn note_record(
     number: u32,
     block: u32,
 ) -> Scalars
-    ensures { λ r. ⌜ noted r (now (tally .exit)) (now (trace .exit)) ≡ noteRecord (now (tally .entry)) (now (trace .entry)) x number block ⌝ }
+    ensures { λ r. ⌜
+        noted r (now (tally .exit)) (now (trace .exit)) ≡ noteRecord (now (tally .entry)) (now (trace .entry)) x number block ⌝ }
 {
     let outcome = x.note;
     if outcome >= NO_RECORD {

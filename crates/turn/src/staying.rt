@@ -1,5 +1,5 @@
-// The turns of those who come back to a WAITIF or an ENTER and wait again: they go from REL to the WSL or to a QL, whose length is counted, and nothing
-// else is done.
+// The turns of those who come back to a WAITIF or an ENTER and wait again: they go from REL to the WSL or to a QL, whose length is counted,
+// and nothing else is done.
 use constants::Model;
 use constants::kinds::WAIT_TERMS;
 use layout::ASKED;
@@ -201,14 +201,16 @@ fn tie(work: &mut [u32], v: u32, l: u32, m: u32)
     end_at(work, REL, n, HEADS + REL);
 }
 
-// Behind row k, which has gone back to list v, those go back too that come with it, at most so many with it; answers how many. Their links stay,
-// and what else is theirs to change is changed once, behind the last.
+// Behind row k, which has gone back to list v, those go back too that come with it, at most so many with it; answers how many. Their links
+// stay, and what else is theirs to change is changed once, behind the last.
 fn line_on(work: &mut [u32], v: u32, k: u32, m: u32, block: u32, most: u32) -> u32
     requires { ⌜ Room (now work) ⌝ }
     requires { ⌜ v < serverCount ⌝ }
     requires { ⌜ k < rowCount ⌝ }
     requires { ⌜ 1 ≤ most ⌝ }
-    ensures lines { λ r. ⌜ (rowCount ≤ m → read (now (work .entry)) standingField k % 2 ≡ 1 → WhereLine block v (λ tables. Lines tables block (tied (now (work .entry)) v k m) (r - 1) (now (work .exit)))) ⌝ }
+    ensures lines { λ r. ⌜
+        (rowCount ≤ m → read (now (work .entry)) standingField k % 2 ≡ 1
+        → WhereLine block v (λ tables. Lines tables block (tied (now (work .entry)) v k m) (r - 1) (now (work .exit)))) ⌝ }
     ensures some { λ r. ⌜ 1 ≤ r ⌝ }
     ensures few { λ r. ⌜ r ≤ most ⌝ }
 {

@@ -12,9 +12,9 @@ less32-requires c κs = search needs
 cast-b : tie.Need-cast-b
 cast-b c = search needs
 
-returns : tie.Need-returns
+returns-b-at-least-max-blocks : tie.Need-returns
 unfolding act
-returns c = rw (← c .before .less32 .ensures, le-ltb _ 256 (c .if1 .taken))
+returns-b-at-least-max-blocks c = rw (← c .before .less32 .ensures, le-ltb _ 256 (c .if1 .taken))
 
 mul-execute : tie.Need-mul-execute
 mul-execute c = search needs
@@ -31,9 +31,15 @@ same-length c = search needs
 same-length-2 : tie.Need-same-length-2
 same-length-2 c = search needs
 
-returns-2 : tie.Need-returns-2
+returns-last : tie.Need-returns-2
 unfolding act
-returns-2 c = rw (← c .before .before .before .before .before .before .before .before .before .before .before .less32 .ensures, lt-ltb _ 256 (c .before .before .before .before .before .before .before .before .before .before .if1 .left)) (note-joined _ _ _ _ _ _ _ _ _ _ (c .before .before .before .before .before .before .before .execute .ensures) (c .before .before .note-record .ensures))
+returns-last c =
+    let at-note-record : tie.After-note-record = search in
+    let at-execute : tie.After-execute = search in
+    let at-else1 : tie.Else1 = search in
+    let at-less32 : tie.After-less32 = search in
+    rw (← at-less32 .less32 .ensures, lt-ltb _ 256 (at-else1 .if1 .left))
+    (note-joined _ _ _ _ _ _ _ _ _ _ (at-execute .execute .ensures) (at-note-record .note-record .ensures))
 
 pub act-spec : {M : Type 1} → statement M
 act-spec =
@@ -41,10 +47,10 @@ act-spec =
     (tie.spec
     less32-requires
     cast-b
-    returns
+    returns-b-at-least-max-blocks
     mul-execute
     execute-requires
     note-record-requires
     same-length
     same-length-2
-    returns-2)
+    returns-last)

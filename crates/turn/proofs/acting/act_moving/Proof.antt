@@ -3,20 +3,28 @@ use Rattle.machine.specs.All.{_∙_, lt-ltb, le-ltb, needs}
 use Rattle.turn_laws.specs.Turn.{actMoving}
 use Rattle.turn.proofs.acting.act_moving as f
 
-returns-2 : f.Tie.Need-returns-2
+returns-k-at-least-rows : f.Tie.Need-returns
 unfolding actMoving
-returns-2 c =
-    let b = c .before .before .before .before .before .before .before .before in
-    rw (lt-ltb _ 1024 (b .before .before .before .before .if1 .left)) (c .before .before .before .before .act .ensures ∙ rw (b .before .before .read .ensures, b .read2 .ensures))
+returns-k-at-least-rows c =
+    rw (le-ltb _ 1024 (c .if1 .taken))
+
+returns-last : f.Tie.Need-returns-2
+unfolding actMoving
+returns-last c =
+    let at-act : f.Tie.After-act = search in
+    let at-read2 : f.Tie.After-read2 = search in
+    let at-read : f.Tie.After-read = search in
+    let at-else1 : f.Tie.Else1 = search in
+    rw (lt-ltb _ 1024 (at-else1 .if1 .left)) (at-act .act .ensures ∙ rw (at-read .read .ensures, at-read2 .read2 .ensures))
 
 pub act-moving-spec : {M : Type 1} → f.Statement.statement M
 act-moving-spec =
     f.Tie.close
     (f.Tie.spec
-    (λ c. unfold actMoving in rw (le-ltb _ 1024 (c .if1 .taken)))
+    returns-k-at-least-rows
     (search needs)
     (search needs)
     (search needs)
     (search needs)
     (search needs)
-    returns-2)
+    returns-last)

@@ -5,8 +5,15 @@ use Rattle.turn.proofs.acting.turn as f
 
 after-taking-requires : f.Tie.Need-after-taking-requires
 after-taking-requires c κs =
-    let b = c .before .before .before .before .before .before .before .before .before .before .before in
-    (omega (arith, b .pre), (omega (arith, b .pre), omega (arith, b .pre, c .before .before .before .before .before .take .kept)))
+    let at-take : f.Tie.After-take = search in
+    let start : f.Tie.Start = search in
+    (omega (arith, start .pre), (omega (arith, start .pre), omega (arith, start .pre, at-take .take .kept)))
+
+returns : f.Tie.Need-returns
+returns c =
+    let at-after-taking : f.Tie.After-after-taking = search in
+    let at-take : f.Tie.After-take = search in
+    turned _ _ _ _ _ _ _ _ _ _ _ (at-take .take .ensures) (at-after-taking .after-taking .ensures)
 
 pub turn-spec : {M : Type 1} → f.Statement.statement M
 turn-spec =
@@ -16,4 +23,4 @@ turn-spec =
     after-taking-requires
     (search needs)
     (search needs)
-    (λ c. let b = c .before .before .before .before in turned _ _ _ _ _ _ _ _ _ _ _ (b .before .before .before .before .before .before .take .ensures) (b .after-taking .ensures)))
+    returns)

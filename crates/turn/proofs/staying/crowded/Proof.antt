@@ -3,6 +3,18 @@ use Rattle.machine.specs.All.{needs}
 use Rattle.turn_laws.specs.Staying.{crowded}
 use Rattle.turn.proofs.staying.crowded as f
 
+returns-behind : f.Tie.Need-returns
+unfolding crowded
+returns-behind c =
+    let at-server-of : f.Tie.After-server-of = search in
+    rw (← at-server-of .server-of .ensures .0, ← c .before .behind .ensures, c .if1 .taken)
+
+returns-last : f.Tie.Need-returns-2
+returns-last c =
+    let at-behind : f.Tie.After-behind = search in
+    let at-server-of : f.Tie.After-server-of = search in
+    unfold crowded in rw (← at-server-of .server-of .ensures .0, ← at-behind .behind .ensures, c .before .if1 .left) (c .short .ensures)
+
 pub crowded-spec : {M : Type 1} → f.Statement.statement M
 crowded-spec =
     f.Tie.close
@@ -10,6 +22,6 @@ crowded-spec =
     (search needs)
     (search needs)
     (search needs)
-    (λ c. unfold crowded in rw (← c .before .before .before .server-of .ensures .0, ← c .before .behind .ensures, c .if1 .taken))
+    returns-behind
     (search needs)
-    (λ c. let b = c .before .before in unfold crowded in rw (← b .before .before .server-of .ensures .0, ← b .behind .ensures, c .before .if1 .left) (c .short .ensures)))
+    returns-last)

@@ -2,6 +2,11 @@
 use Rattle.machine.specs.All.{_∙_, needs}
 use Rattle.turn.proofs.staying.server_of as f
 
+returns : f.Tie.Need-returns
+returns c =
+    let at-less32 : f.Tie.After-less32 = search in
+    (c .server-at .ensures .0 ∙ rw (at-less32 .less32 .ensures), c .server-at .ensures .1)
+
 pub server-of-spec : {M : Type 1} → f.Statement.statement M
 server-of-spec =
     f.Tie.close
@@ -11,4 +16,4 @@ server-of-spec =
     (search needs)
     (search needs)
     (search needs)
-    (λ c. (c .server-at .ensures .0 ∙ rw (c .before .before .less32 .ensures), c .server-at .ensures .1)))
+    returns)

@@ -3,11 +3,19 @@ use Rattle.machine.specs.All.{_∙_, lt-ltb, le-ltb, needs}
 use Rattle.turn_laws.specs.Staying.{stayed}
 use Rattle.turn.proofs.staying.stay as f
 
-returns-2 : f.Tie.Need-returns-2
+returns-k-at-least-rows : f.Tie.Need-returns
 unfolding stayed
-returns-2 c =
-    let b = c .before .before .before .before .before .before in
-    rw (← b .before .before .before .first .ensures, lt-ltb _ 1024 (b .before .before .if1 .left)) (c .before .before .put .ensures ∙ rw (b .take-first .ensures .1))
+returns-k-at-least-rows c =
+    rw (← c .before .first .ensures, le-ltb _ 1024 (c .if1 .taken))
+
+returns-last : f.Tie.Need-returns-2
+unfolding stayed
+returns-last c =
+    let at-put : f.Tie.After-put = search in
+    let at-take-first : f.Tie.After-take-first = search in
+    let at-else1 : f.Tie.Else1 = search in
+    let at-first : f.Tie.After-first = search in
+    rw (← at-first .first .ensures, lt-ltb _ 1024 (at-else1 .if1 .left)) (at-put .put .ensures ∙ rw (at-take-first .take-first .ensures .1))
 
 pub stay-spec : {M : Type 1} → f.Statement.statement M
 stay-spec =
@@ -15,8 +23,8 @@ stay-spec =
     (f.Tie.spec
     (search needs)
     (search needs)
-    (λ c. unfold stayed in rw (← c .before .first .ensures, le-ltb _ 1024 (c .if1 .taken)))
+    returns-k-at-least-rows
     (search needs)
     (search needs)
     (search needs)
-    returns-2)
+    returns-last)

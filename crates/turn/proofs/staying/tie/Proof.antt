@@ -3,6 +3,16 @@ use Rattle.machine.specs.All.{_∙_, needs}
 use Rattle.turn_laws.specs.Staying.{tied}
 use Rattle.turn.proofs.staying.tie as f
 
+returns : f.Tie.Need-returns
+returns c =
+    let at-end-at : f.Tie.After-end-at = search in
+    let at-set3 : f.Tie.After-set3 = search in
+    let at-set2 : f.Tie.After-set2 = search in
+    let at-set : f.Tie.After-set = search in
+    let at-get : f.Tie.After-get = search in
+    unfold tied in at-end-at .end-at .ensures
+    ∙ rw (at-set3 .set3 .ensures, at-set2 .set2 .ensures, at-set .set .ensures, at-get .get .ensures)
+
 pub tie-spec : {M : Type 1} → f.Statement.statement M
 tie-spec =
     f.Tie.close
@@ -19,8 +29,4 @@ tie-spec =
     (search needs)
     (search needs)
     (search needs)
-    (λ c.
-    let b = c .before .before in
-    let d = b .before .before .before .before in
-    let e = d .before .before .before .before in
-    unfold tied in b .end-at .ensures ∙ rw (d .set3 .ensures, e .set2 .ensures, e .before .before .before .before .set .ensures, e .before .before .before .before .before .before .get .ensures)))
+    returns)
