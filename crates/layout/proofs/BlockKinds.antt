@@ -85,7 +85,8 @@ unasked kind e =
 pub data Waits (b : Block) : Type 0 where
   closing : (code : Code) (v c : ℕ) → b ≡ waitServer code v (suc c) → Waits b
   plain : (code : Code) (v : ℕ) → b ≡ waitServer code v 0 → Waits b
-  elsewhere : (kind : ℕ) (rest : List ℕ) → blockNumbers b ≡ kind ∷ rest → eqb kind 17 ≡ false → eqb kind 8 ≡ false → facts b .wel ≡ 0 → facts b .back ≡ 0 → Waits b
+  elsewhere : (kind : ℕ) (rest : List ℕ) → blockNumbers b ≡ kind ∷ rest → eqb kind 17 ≡ false → eqb kind 8 ≡ false → facts b .wel ≡ 0
+      → facts b .back ≡ 0 → Waits b
 
 pub waits : (b : Block) → Waits b
 unfolding blockForms

@@ -4,5 +4,6 @@ use Rattle.layout.specs.Numbers.{takeNumbers, freeNumbers, moveNumbers, 
 use Rattle.layout.specs.Represents.{smallBlock}
 
 unfoldable pub blockForms : Unit {0}
-unfolding shareServer shareUnits arrivals unconditional compared facts allOf takeNumbers freeNumbers moveNumbers waitNumbers countKind blockNumbers smallBlock
+unfolding shareServer shareUnits arrivals unconditional compared facts allOf takeNumbers freeNumbers moveNumbers waitNumbers countKind
+    blockNumbers smallBlock
 blockForms = tt

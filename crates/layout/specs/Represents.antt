@@ -48,7 +48,8 @@ smallBlock b = allOf smallTerm (facts b .terms)
 -- from byte p of the tape on stand the times of a sample list
 abbrev pub TimesAt : List ℕ → ℕ → List ℕ → Type 0
 TimesAt bytes p l =
-    (c : Cursor) → c .position ≡ p → (d : Cursor) × (times (length l) (fieldUpTo (inForce .maxNumber) bytes 8 0 (inForce .maxTime)) c ≡ parsed l d)
+    (c : Cursor) → c .position ≡ p → (d : Cursor)
+    × (times (length l) (fieldUpTo (inForce .maxNumber) bytes 8 0 (inForce .maxTime)) c ≡ parsed l d)
 
 -- a set of things that has all that the WAITIFs on comparisons read: where the cell of a block is 0, the block changes nothing of it, and
 -- where that of the clock is 0, it has not the clock
@@ -57,7 +58,8 @@ pub record Watching (m : BlockModel) (tables : List ℕ) : Type 0 where
   pub watches : Watches (λ x. watched x ≡ true) m
   pub clock : getD tables Layout.clockAsked 0 ≡ 0 → watched theClock ≡ false
   pub entries : (b : ℕ) → b < length (m .blocks) → getD tables (Layout.asked + b) 0 ≡ 0 → watched (entry b) ≡ false
-  pub changes : (b : ℕ) → b < length (m .blocks) → getD tables (Layout.asked + b) 0 ≡ 0 → Spares (λ x. watched x ≡ true) (getD (m .blocks) b (terminate 0))
+  pub changes : (b : ℕ) → b < length (m .blocks) → getD tables (Layout.asked + b) 0 ≡ 0
+      → Spares (λ x. watched x ≡ true) (getD (m .blocks) b (terminate 0))
 
 -- where the cell of a value is 0, its worth is the same with any parameters
 abbrev pub Sharing : BlockModel → List ℕ → Type 0
@@ -71,10 +73,12 @@ pub record Represents (m : BlockModel) (tape : List (List ℕ)) (tapeBytes table
   pub edition : getD tables Layout.edition 0 ≡ m .edition
   pub blocks : (b : ℕ) → b < length (m .blocks) → At tables (Layout.blockWidth * b) (blockNumbers (getD (m .blocks) b (terminate 0)))
   pub small-blocks : (b : ℕ) → T (smallBlock (getD (m .blocks) b (terminate 0)))
-  pub values : (k : ℕ) → k < length (m .values) → At tables (Layout.values + Layout.valueWidth * k) (sumNumbers (getD (m .values) k nothing))
+  pub values : (k : ℕ) → k < length (m .values)
+      → At tables (Layout.values + Layout.valueWidth * k) (sumNumbers (getD (m .values) k nothing))
   pub small-values : (k : ℕ) → T (smallSum (getD (m .values) k nothing))
   -- of all 64 servers; 0 where there is none
-  pub capacities : (v : ℕ) → v < Layout.serverCount → getD tables (Layout.capacities + v) 0 ≡ getD (replicate (m .facilities) 1 ++ m .capacities) v 0
+  pub capacities : (v : ℕ) → v < Layout.serverCount
+      → getD tables (Layout.capacities + v) 0 ≡ getD (replicate (m .facilities) 1 ++ m .capacities) v 0
   pub watching : Watching m tables
   pub sharing : Sharing m tables
   -- list k: where its times begin, at k, and its count, at 16 + k; a list that is not there has no times

@@ -2,5 +2,13 @@
 use Rattle.machine.specs.All.{sym, needs, List·getD-eq-default}
 use Rattle.layout.proofs.number as f
 
+returns-last : f.Tie.Need-returns-2
+returns-last c =
+    sym (List·getD-eq-default (c .before .args .tables .now) _ (c .if1 .left))
+
 pub number-spec : {M : Type 1} → f.Statement.statement M
-number-spec = f.Tie.close (f.Tie.spec (search needs) (search needs) (λ c. search needs) (λ c. sym (List·getD-eq-default (c .before .args .tables .now) _ (c .if1 .left))))
+number-spec = f.Tie.close (f.Tie.spec
+    (search needs)
+    (search needs)
+    (λ c. search needs)
+    returns-last)

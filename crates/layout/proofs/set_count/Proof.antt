@@ -3,4 +3,5 @@ use Rattle.machine.specs.All.{sym, needs, set-out}
 use Rattle.layout.proofs.set_count as f
 
 pub set-count-spec : {M : Type 1} → f.Statement.statement M
-set-count-spec = f.Tie.close (f.Tie.spec (search needs) (search needs) (search needs) (λ c. search needs) (λ c. sym (set-out _ _ _ (c .if1 .left))))
+set-count-spec =
+    f.Tie.close (f.Tie.spec (search needs) (search needs) (search needs) (λ c. search needs) (λ c. sym (set-out _ _ _ (c .if1 .left))))
