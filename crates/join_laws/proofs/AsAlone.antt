@@ -14,10 +14,12 @@ tapeIn (accept m times) = times
 tapeIn (reject n) = []
 
 pub as-alone : AsAlone
-as-alone model₁ tape₁ model₂ tape₂ model tape modelRoom tapeRoom work report m₁ m₂ m times₁ times₂ times v₁ v₂ e v clock₁ clock₂ units joint alone₁ alone₂ d d₁ d₂ =
+as-alone model₁ tape₁ model₂ tape₂ model tape modelRoom tapeRoom work report m₁ m₂ m times₁ times₂ times v₁ v₂ e v clock₁ clock₂ units
+    joint alone₁ alone₂ d d₁ d₂ =
     let whole = join-accepted model₁ tape₁ model₂ tape₂ modelRoom tapeRoom work report m₁ m₂ times₁ times₂ v₁ v₂ model tape e in
     let same-model : m ≡ joinModels m₁ m₂ = ap (modelIn m) (sym v ∙ whole) in
     let same-tape : times ≡ joinTapes times₁ times₂ = ap tapeIn (sym v ∙ whole) in
     in-force model₁ tape₁ model₂ tape₂ work report m₁ m₂ times₁ times₂ v₁ v₂
-    (join-within model₁ tape₁ model₂ tape₂ modelRoom tapeRoom work report m₁ m₂ times₁ times₂ v₁ v₂ model tape e) clock₁ clock₂ units joint alone₁ alone₂
-    (rw same-tape at (subst (λ k. Dry k times joint) same-model d)) d₁ d₂
+    (join-within model₁ tape₁ model₂ tape₂ modelRoom tapeRoom work report m₁ m₂ times₁ times₂ v₁ v₂ model tape e) clock₁ clock₂ units joint
+    alone₁ alone₂
+    (subst (λ t. Dry (joinModels m₁ m₂) t joint) same-tape (subst (λ k. Dry k times joint) same-model d)) d₁ d₂

@@ -1,8 +1,9 @@
 -- Question 7 of the joined model: both parts are well formed, and nothing leads from one into the other.
-use Rattle.machine.specs.All.{clash, ℕ, suc, _+_, _-_, _≤_, _<_, arith, _≡_, refl, sym, ap, ap₂, subst, _∙_, Bool, true, false, cond, not, _&&_, _||_, List, [], _∷_, _++_, map, eqb-false, ne-eqb, leb-true, leb-false, le-leb, lt-leb, T, leb, ltb, eqb, length, getD, length-append, length-map, List·getD-append, List·getD-map, List·getD-eq-default, getD-append-add, maxBack, bit, isGenerate, Term, constant, minusConstant, parameter, clockTerm, entriesOf, contentOf, unitsInUse, unitsFree, facilityInUse, value, comparison, bracket, Sum, nothing, plus, minus, always, whenTrue, welIndex, unconditional, Block, generate, advance, terminate, takes, frees, waitServer, waitTerms, moves, assign, priority, split, counts, assemble, preempt, giveBack, facts, BlockModel, blockAt, backAt, insideGroup, wellPlaced, allOf, joined, targetsMove, termNames, sumNames, wellFormed, Each}
+use Rattle.machine.specs.All.{ℕ, suc, _+_, _-_, _≤_, _<_, arith, _≡_, refl, sym, ap, ap₂, subst, _∙_, Bool, true, false, cond, not, _&&_, _||_, List, [], _∷_, _++_, map, eqb-false, ne-eqb, leb-true, leb-false, le-leb, lt-leb, T, leb, ltb, eqb, length, getD, length-append, length-map, List·getD-append, List·getD-map, List·getD-eq-default, getD-append-add, maxBack, bit, isGenerate, Term, constant, minusConstant, parameter, clockTerm, entriesOf, contentOf, unitsInUse, unitsFree, facilityInUse, value, comparison, bracket, Sum, nothing, plus, minus, always, whenTrue, welIndex, unconditional, Block, generate, advance, terminate, takes, frees, waitServer, waitTerms, moves, assign, priority, split, counts, assemble, preempt, giveBack, facts, BlockModel, blockAt, backAt, insideGroup, wellPlaced, allOf, joined, targetsMove, termNames, sumNames, wellFormed, Each}
 use Rattle.machine.proofs.{decoding.Proper.ProperBlock, decoding.Proper.Proper, lists.Sums.upTo-cong, conservation.StartLedger.each-of}
 use Rattle.machine.proofs.decoding.Groups.{and-left, and-right, back-within}
 use Rattle.joined.specs.Join.{Part, first, second, termIn, sumIn, shareIn, conditionIn, blockIn, joinModels}
+use Rattle.joined.specs.Join.{serverIn}
 
 -- ---- Tests
 
@@ -16,7 +17,7 @@ is-true false h = absurd h
 
 from-true : (b : Bool) → b ≡ true → T b
 from-true true e = tt
-from-true false e = clash (cc)
+from-true false e = let z : _≡_ {A = ℕ} 0 1 = cc in absurd (omega arith)
 
 -- ---- A block and its image
 
@@ -36,7 +37,7 @@ alike : (p : Part) (m : BlockModel) (b : Block) → ProperBlock m b → Alike p 
 unfolding facts blockIn shareIn conditionIn unconditional
 alike p m (generate list k) h =
     record {
-      generates = cc (ne-eqb (list + p .toList) 0 (λ e. omega arith), ne-eqb list 0 (λ e. omega arith));
+      generates = ap not (ne-eqb (list + p .toList) 0 (λ e. omega arith) ∙ sym (ne-eqb list 0 (λ e. omega arith)));
       leaves = refl;
       waits = refl;
       back = refl;
@@ -48,7 +49,14 @@ alike p m (terminate a) h = record { generates = refl; leaves = refl; waits = re
 alike p m (takes x) h = record { generates = refl; leaves = refl; waits = refl; back = refl; target = refl; named = omega arith }
 alike p m (frees x) h = record { generates = refl; leaves = refl; waits = refl; back = refl; target = refl; named = omega arith }
 alike p m (waitServer code v c) h =
-    record { generates = refl; leaves = refl; waits = ne-eqb (suc (welIndex _ code)) 0 (λ e. omega arith) ∙ sym (ne-eqb (suc (welIndex v code)) 0 (λ e. omega arith)); back = refl; target = refl; named = omega arith }
+    record {
+      generates = refl;
+      leaves = refl;
+      waits = ne-eqb (suc (welIndex (serverIn p v) code)) 0 (λ e. omega arith) ∙ sym (ne-eqb (suc (welIndex v code)) 0 (λ e. omega arith));
+      back = refl;
+      target = refl;
+      named = omega arith;
+    }
 alike p m (waitTerms a r b) h = record { generates = refl; leaves = refl; waits = refl; back = refl; target = refl; named = omega arith }
 alike p m (moves always target) h =
     record { generates = refl; leaves = refl; waits = refl; back = refl; target = rw (ne-eqb target 0 (λ e. omega arith)); named = h .1 }
@@ -65,10 +73,10 @@ alike p m (giveBack f) h = record { generates = refl; leaves = refl; waits = ref
 
 all-alike : (p : Part) (m : BlockModel) → ((n : ℕ) → ProperBlock m (blockAt m n)) → Each (Alike p (length (m .blocks))) (m .blocks)
 all-alike p m proper =
-    each-of _ _ (m .blocks)
+    each-of (Alike p (length (m .blocks))) (terminate 0) (m .blocks)
     (λ i.
     let e : suc i - 1 ≡ i = omega arith in
-    alike p m _ (rw e at (proper (suc i))))
+    alike p m (getD (m .blocks) i (terminate 0)) (subst (λ j. ProperBlock m (getD (m .blocks) j (terminate 0))) e (proper (suc i))))
 
 -- ---- GENERATEs and groups
 
@@ -76,38 +84,41 @@ module _ (p : Part) (size : ℕ) where
   placed-image : (left : Bool) (l : List Block) → Each (Alike p size) l → wellPlaced left (map (blockIn p) l) ≡ wellPlaced left l
   unfolding wellPlaced
   placed-image left [] h = refl
-  placed-image left (b ∷ l) h = rw (h .0 .generates, h .0 .leaves, placed-image _ l (h .1))
+  placed-image left (b ∷ l) h = rw (h .0 .generates, h .0 .leaves, placed-image (facts b .leaves) l (h .1))
 
   joined-image : (waits : ℕ) (l : List Block) → Each (Alike p size) l → joined waits (map (blockIn p) l) ≡ joined waits l
   unfolding joined
   joined-image waits [] h = refl
   joined-image waits (b ∷ l) h =
-      rw (h .0 .back, h .0 .waits, joined-image _ l (h .1))
+      rw (h .0 .back, h .0 .waits, joined-image (cond (not (eqb (facts b .wel) 0) && eqb (facts b .back) 0) (suc waits) 0) l (h .1))
 
 placed-both : (left : Bool) (k l : List Block) → T (wellPlaced left k) → T (wellPlaced true l) → T (wellPlaced left (k ++ l))
 unfolding wellPlaced
 placed-both left [] l h g = rw (is-true left h) g
 placed-both left (b ∷ k) l h g =
-    and-intro (not (isGenerate (facts b)) || left) _ (and-left (not (isGenerate (facts b)) || left) _ h) (placed-both _ k l (and-right (not (isGenerate (facts b)) || left) _ h) g)
+    and-intro (not (isGenerate (facts b)) || left) _ (and-left (not (isGenerate (facts b)) || left) _ h)
+    (placed-both (facts b .leaves) k l (and-right (not (isGenerate (facts b)) || left) _ h) g)
 
 -- more waits before do no harm
 joined-more : (l : List Block) (a b : ℕ) → a ≤ b → T (joined a l) → T (joined b l)
 unfolding joined
 joined-more [] a b h g = tt
 joined-more (x ∷ l) a b h g =
-    and-intro (leb _ b) _
-    (from-true _ (le-leb _ b (omega (arith, leb-true _ a (is-true _ (and-left (leb _ a) _ g))))))
-    (rest (λ i j. joined-more l i j) (not (eqb (facts x .wel) 0) && eqb (facts x .back) 0) (and-right (leb _ a) _ g))
+    and-intro (leb (facts x .back) b) _
+    (from-true _ (le-leb (facts x .back) b (omega (arith, leb-true (facts x .back) a (is-true _ (and-left (leb (facts x .back) a) _ g))))))
+    (rest (λ i j. joined-more l i j) (not (eqb (facts x .wel) 0) && eqb (facts x .back) 0) (and-right (leb (facts x .back) a) _ g))
   where
-    rest : ((i j : ℕ) → i ≤ j → T (joined i l) → T (joined j l)) → (w : Bool) → T (joined (cond w (suc a) 0) l) → T (joined (cond w (suc b) 0) l)
-    rest f true k = f _ _ (omega arith) k
+    rest : ((i j : ℕ) → i ≤ j → T (joined i l) → T (joined j l)) → (w : Bool) → T (joined (cond w (suc a) 0) l)
+        → T (joined (cond w (suc b) 0) l)
+    rest f true k = f (suc a) (suc b) (omega arith) k
     rest f false k = k
 
 joined-both : (waits : ℕ) (k l : List Block) → T (joined waits k) → T (joined 0 l) → T (joined waits (k ++ l))
 unfolding joined
 joined-both waits [] l h g = joined-more l 0 waits (omega arith) g
 joined-both waits (b ∷ k) l h g =
-    and-intro (leb _ waits) _ (and-left (leb _ waits) _ h) (joined-both _ k l (and-right (leb _ waits) _ h) g)
+    and-intro (leb (facts b .back) waits) _ (and-left (leb (facts b .back) waits) _ h)
+    (joined-both _ k l (and-right (leb (facts b .back) waits) _ h) g)
 
 -- ---- Blocks named in values
 
@@ -126,18 +137,25 @@ module _ (p : Part) (size all : ℕ) (room : size + p .toBlock ≤ all) where
     term-named (unitsFree v) h = tt
     term-named (facilityInUse v) h = tt
     term-named (value k) h = tt
-    term-named (comparison r a b) h = and-intro (termNames all (termIn p a)) _ (term-named a (and-left (termNames size a) _ h)) (term-named b (and-right (termNames size a) _ h))
+    term-named (comparison r a b) h =
+        and-intro (termNames all (termIn p a)) _ (term-named a (and-left (termNames size a) _ h))
+        (term-named b (and-right (termNames size a) _ h))
     term-named (bracket e) h = sum-named e h
 
     sum-named : (e : Sum) → T (sumNames size e) → T (sumNames all (sumIn p e))
     sum-named nothing h = tt
-    sum-named (plus t e) h = and-intro (termNames all (termIn p t)) _ (term-named t (and-left (termNames size t) _ h)) (sum-named e (and-right (termNames size t) _ h))
-    sum-named (minus t e) h = and-intro (termNames all (termIn p t)) _ (term-named t (and-left (termNames size t) _ h)) (sum-named e (and-right (termNames size t) _ h))
+    sum-named (plus t e) h =
+        and-intro (termNames all (termIn p t)) _ (term-named t (and-left (termNames size t) _ h))
+        (sum-named e (and-right (termNames size t) _ h))
+    sum-named (minus t e) h =
+        and-intro (termNames all (termIn p t)) _ (term-named t (and-left (termNames size t) _ h))
+        (sum-named e (and-right (termNames size t) _ h))
 
   sums-named : (l : List Sum) → T (allOf (sumNames size) l) → T (allOf (sumNames all) (map (sumIn p) l))
   unfolding allOf
   sums-named [] h = tt
-  sums-named (e ∷ l) h = and-intro (sumNames all _) _ (sum-named e (and-left (sumNames size e) _ h)) (sums-named l (and-right (sumNames size e) _ h))
+  sums-named (e ∷ l) h =
+      and-intro (sumNames all (sumIn p e)) _ (sum-named e (and-left (sumNames size e) _ h)) (sums-named l (and-right (sumNames size e) _ h))
 
 all-both : {A : Type 0} (f : A → Bool) (k l : List A) → T (allOf f k) → T (allOf f l) → T (allOf f (k ++ l))
 unfolding allOf
@@ -153,28 +171,34 @@ record Sits (p : Part) (m joint : BlockModel) : Type 0 where
 
 past-end : (m : BlockModel) (n : ℕ) → length (m .blocks) < n → backAt m n ≡ 0
 unfolding facts
-past-end m n h = ap (λ b. facts b .back) (List·getD-eq-default (m .blocks) _ (omega arith))
+past-end m n h = ap (λ b. facts b .back) (List·getD-eq-default (m .blocks) (terminate 0) (omega arith))
 
 module _ (p : Part) {m joint : BlockModel} (sits : Sits p m joint) (proper : (n : ℕ) → ProperBlock m (blockAt m n)) where
   inside-same : (t : ℕ) → 1 ≤ t → t ≤ length (m .blocks) → insideGroup joint (t + p .toBlock) ≡ insideGroup m t
   unfolding insideGroup
-  inside-same t low high = ap (ltb 0) (upTo-cong _ _ maxBack (λ c one most. ap bit (each c one _ refl)))
+  inside-same t low high =
+      ap (ltb 0) (upTo-cong _ _ maxBack (λ c one most. ap bit (each c one (leb (t + c - 1) (length (m .blocks))) refl)))
     where
-      each : (c : ℕ) → 1 ≤ c → (b : Bool) → leb (t + c - 1) (length (m .blocks)) ≡ b → leb c (backAt joint (t + p .toBlock + c - 1)) ≡ leb c (backAt m (t + c - 1))
+      each : (c : ℕ) → 1 ≤ c → (b : Bool) → leb (t + c - 1) (length (m .blocks)) ≡ b
+          → leb c (backAt joint (t + p .toBlock + c - 1)) ≡ leb c (backAt m (t + c - 1))
       each c one true e =
           let here : t + p .toBlock + c - 1 ≡ t + c - 1 + p .toBlock = omega arith in
-          cc (here, sits .block (t + c - 1) (omega arith) (leb-true _ _ e), alike p m (blockAt m (t + c - 1)) (proper (t + c - 1)) .back)
+          ap (λ i. leb c (backAt joint i)) here
+          ∙ ap (λ x. leb c (facts x .back)) (sits .block (t + c - 1) (omega arith) (leb-true _ _ e))
+          ∙ ap (leb c) (alike p m (blockAt m (t + c - 1)) (proper (t + c - 1)) .back)
       each c one false e =
-          let out = leb-false (t + c - 1) _ e in
+          let out : length (m .blocks) < t + c - 1 = leb-false (t + c - 1) (length (m .blocks)) e in
           let here : t + p .toBlock + c - 1 ≡ t + c - 1 + p .toBlock = omega arith in
-          cc (here, lt-leb c (backAt joint (t + c - 1 + p .toBlock)) (omega (arith, sits .behind (t + c - 1) (omega arith))), lt-leb c (backAt m (t + c - 1)) (omega (arith, past-end m (t + c - 1) (omega arith))))
+          ap (λ i. leb c (backAt joint i)) here
+          ∙ lt-leb c (backAt joint (t + c - 1 + p .toBlock)) (omega (arith, sits .behind (t + c - 1) (omega arith)))
+          ∙ sym (lt-leb c (backAt m (t + c - 1)) (omega (arith, past-end m (t + c - 1) (omega arith))))
 
   -- where a block may lead
   abbrev Leads : BlockModel → Block → Bool
   Leads k b = eqb (facts b .target) 0 || (not (isGenerate (facts (blockAt k (facts b .target)))) && not (insideGroup k (facts b .target)))
 
   leads-same : (b : Block) → Alike p (length (m .blocks)) b → Leads joint (blockIn p b) ≡ Leads m b
-  leads-same b a = ap leads (a .target) ∙ go _ (a .named) _ refl
+  leads-same b a = ap leads (a .target) ∙ go (facts b .target) (a .named) (eqb (facts b .target) 0) refl
     where
       leads : ℕ → Bool
       leads t = eqb t 0 || (not (isGenerate (facts (blockAt joint t))) && not (insideGroup joint t))
@@ -184,13 +208,19 @@ module _ (p : Part) {m joint : BlockModel} (sits : Sits p m joint) (proper : (n 
       go t most true e = refl
       go t most false e =
           let some = eqb-false t 0 e in
-          rw (ne-eqb (t + p .toBlock) 0 (λ z. some (omega arith)), sits .block t (omega arith) most, inside-same t (omega arith) most, alike p m _ (proper t) .generates)
+          rw (
+            ne-eqb (t + p .toBlock) 0 (λ z. some (omega arith)),
+            sits .block t (omega arith) most,
+            inside-same t (omega arith) most,
+            alike p m (blockAt m t) (proper t) .generates,
+          )
 
   all-lead : (l : List Block) → Each (Alike p (length (m .blocks))) l → T (allOf (Leads m) l) → T (allOf (Leads joint) (map (blockIn p) l))
   unfolding allOf
   all-lead [] h g = tt
   all-lead (b ∷ l) h g =
-      and-intro (Leads joint _) _ (rw (leads-same b (h .0)) (and-left (Leads m b) _ g)) (all-lead l (h .1) (and-right (Leads m b) _ g))
+      and-intro (Leads joint (blockIn p b)) _ (subst T (sym (leads-same b (h .0))) (and-left (Leads m b) _ g))
+      (all-lead l (h .1) (and-right (Leads m b) _ g))
 
 -- ---- The joined model
 
@@ -207,25 +237,27 @@ module _ {m₁ m₂ : BlockModel} {tape₁ tape₂ : List (List ℕ)} (proper₁
   in-first : (i : ℕ) → i < length (m₁ .blocks) → both i ≡ blockIn (first m₁ m₂) (getD (m₁ .blocks) i (terminate 0))
   unfolding blockIn
   in-first i h =
-      List·getD-append blocks₁ blocks₂ _ i (omega (arith, length-map (m₁ .blocks) (blockIn (first m₁ m₂))))
-      ∙ List·getD-map _ (m₁ .blocks) i _
+      List·getD-append blocks₁ blocks₂ (terminate 0) i (omega (arith, length-map (m₁ .blocks) (blockIn (first m₁ m₂))))
+      ∙ List·getD-map (blockIn (first m₁ m₂)) (m₁ .blocks) i (terminate 0)
 
   in-second : (i : ℕ) → both (length (m₁ .blocks) + i) ≡ blockIn (second m₁ m₂) (getD (m₂ .blocks) i (terminate 0))
   unfolding blockIn
   in-second i =
-      cc (length-map (m₁ .blocks) (blockIn (first m₁ m₂)), getD-append-add blocks₁ blocks₂ i (terminate 0), List·getD-map (blockIn (second m₁ m₂)) (m₂ .blocks) i (terminate 0))
+      ap (λ n. both (n + i)) (sym (length-map (m₁ .blocks) (blockIn (first m₁ m₂))))
+      ∙ getD-append-add blocks₁ blocks₂ i (terminate 0)
+      ∙ List·getD-map (blockIn (second m₁ m₂)) (m₂ .blocks) i (terminate 0)
 
   sits₁ : Sits (first m₁ m₂) m₁ (joinModels m₁ m₂)
   unfolding joinModels
   sits₁ =
       record {
-        block = λ n low high. ap both (omega arith) ∙ in-first _ (omega arith);
+        block = λ n low high. ap both (omega arith) ∙ in-first (n - 1) (omega arith);
         behind = λ n out.
             let k = n - length (m₁ .blocks) in
             let here : n + 0 - 1 ≡ length (m₁ .blocks) + (k - 1) = omega arith in
-            let same =
+            let same : backAt (joinModels m₁ m₂) (n + 0) ≡ backAt m₂ k =
             ap (λ b. facts b .back) (ap both here ∙ in-second (k - 1)) ∙ alike (second m₁ m₂) m₂ (blockAt m₂ k) (proper₂ .block k) .back in
-            omega (arith, back-within proper₂ k);
+            omega (arith, same, back-within proper₂ k);
       }
 
   sits₂ : Sits (second m₁ m₂) m₂ (joinModels m₁ m₂)
@@ -234,12 +266,12 @@ module _ {m₁ m₂ : BlockModel} {tape₁ tape₂ : List (List ℕ)} (proper₁
       record {
         block = λ n low high.
             let here : n + length (m₁ .blocks) - 1 ≡ length (m₁ .blocks) + (n - 1) = omega arith in
-            ap both here ∙ in-second _;
+            ap both here ∙ in-second (n - 1);
         behind = λ n out.
             let here : n + length (m₁ .blocks) - 1 ≡ length (m₁ .blocks) + (n - 1) = omega arith in
-            let same =
+            let same : backAt (joinModels m₁ m₂) (n + length (m₁ .blocks)) ≡ backAt m₂ n =
             ap (λ b. facts b .back) (ap both here ∙ in-second (n - 1)) ∙ alike (second m₁ m₂) m₂ (blockAt m₂ n) (proper₂ .block n) .back in
-            omega (arith, past-end m₂ n out);
+            omega (arith, same, past-end m₂ n out);
       }
 
 -- question 7, part by part
@@ -252,22 +284,29 @@ pub record WellFormed (m : BlockModel) : Type 0 where
 pub well-formed : {m : BlockModel} → T (wellFormed m) → WellFormed m
 unfolding wellFormed
 well-formed {m} h =
-    let a = wellPlaced true _ in
+    let a = wellPlaced true (m .blocks) in
     let b = targetsMove m in
-    let c = allOf _ _ in
-    let abc = and-left (a && b && c) _ h in
+    let c = allOf (sumNames (length (m .blocks))) (m .values) in
+    let abc = and-left (a && b && c) (joined 0 (m .blocks)) h in
     let ab = and-left (a && b) c abc in
-    record { placed = and-left a b ab; targets = and-right a b ab; names = and-right (a && b) c abc; groups = and-right (a && b && c) _ h }
+    record {
+      placed = and-left a b ab;
+      targets = and-right a b ab;
+      names = and-right (a && b) c abc;
+      groups = and-right (a && b && c) (joined 0 (m .blocks)) h;
+    }
 
 form : {m : BlockModel} → WellFormed m → T (wellFormed m)
 unfolding wellFormed
 form {m} h =
-    let a = wellPlaced true _ in
+    let a = wellPlaced true (m .blocks) in
     let b = targetsMove m in
-    let c = allOf _ _ in
-    and-intro (a && b && c) _ (and-intro (a && b) c (and-intro a b (h .placed) (h .targets)) (h .names)) (h .groups)
+    let c = allOf (sumNames (length (m .blocks))) (m .values) in
+    and-intro (a && b && c) (joined 0 (m .blocks)) (and-intro (a && b) c (and-intro a b (h .placed) (h .targets)) (h .names)) (h .groups)
 
-pub joined-formed : {m₁ m₂ : BlockModel} {tape₁ tape₂ : List (List ℕ)} → Proper m₁ tape₁ → Proper m₂ tape₂ → T (wellFormed (joinModels m₁ m₂))
+-- question 7, by its parts: placement, targets, groups, names
+pub joined-formed : {m₁ m₂ : BlockModel} {tape₁ tape₂ : List (List ℕ)} → Proper m₁ tape₁ → Proper m₂ tape₂
+    → T (wellFormed (joinModels m₁ m₂))
 joined-formed {m₁} {m₂} proper₁ proper₂ =
     form (record { placed = placed; targets = targets; names = names; groups = groups })
   where
@@ -278,39 +317,40 @@ joined-formed {m₁} {m₂} proper₁ proper₂ =
     f₂ = well-formed (proper₂ .formed)
 
     a₁ : Each (Alike (first m₁ m₂) (length (m₁ .blocks))) (m₁ .blocks)
-    a₁ = all-alike _ m₁ (proper₁ .block)
+    a₁ = all-alike (first m₁ m₂) m₁ (proper₁ .block)
 
     a₂ : Each (Alike (second m₁ m₂) (length (m₂ .blocks))) (m₂ .blocks)
-    a₂ = all-alike _ m₂ (proper₂ .block)
+    a₂ = all-alike (second m₁ m₂) m₂ (proper₂ .block)
 
     placed : T (wellPlaced true (joinModels m₁ m₂ .blocks))
     placed =
         unfold joinModels in
-        placed-both true _ _ (subst T (sym (placed-image _ _ true _ a₁)) (f₁ .placed))
-        (subst T (sym (placed-image _ _ true _ a₂)) (f₂ .placed))
+        placed-both true _ _ (subst T (sym (placed-image (first m₁ m₂) (length (m₁ .blocks)) true (m₁ .blocks) a₁)) (f₁ .placed))
+        (subst T (sym (placed-image (second m₁ m₂) (length (m₂ .blocks)) true (m₂ .blocks) a₂)) (f₂ .placed))
 
     groups : T (joined 0 (joinModels m₁ m₂ .blocks))
     groups =
         unfold joinModels in
-        joined-both 0 _ _ (subst T (sym (joined-image _ _ 0 _ a₁)) (f₁ .groups))
-        (subst T (sym (joined-image _ _ 0 _ a₂)) (f₂ .groups))
+        joined-both 0 _ _ (subst T (sym (joined-image (first m₁ m₂) (length (m₁ .blocks)) 0 (m₁ .blocks) a₁)) (f₁ .groups))
+        (subst T (sym (joined-image (second m₁ m₂) (length (m₂ .blocks)) 0 (m₂ .blocks) a₂)) (f₂ .groups))
 
     size : length (joinModels m₁ m₂ .blocks) ≡ length (m₁ .blocks) + length (m₂ .blocks)
     size =
         unfold joinModels in
-        (length-append (map _ (m₁ .blocks)) _
-        ∙ ap₂ (λ i j. i + j) (length-map (m₁ .blocks) _) (length-map (m₂ .blocks) _))
+        (length-append (map (blockIn (first m₁ m₂)) (m₁ .blocks)) (map (blockIn (second m₁ m₂)) (m₂ .blocks))
+        ∙ ap₂ (λ i j. i + j) (length-map (m₁ .blocks) (blockIn (first m₁ m₂))) (length-map (m₂ .blocks) (blockIn (second m₁ m₂))))
 
     names : T (allOf (sumNames (length (joinModels m₁ m₂ .blocks))) (joinModels m₁ m₂ .values))
     names =
         subst (λ n. T (allOf (sumNames n) (joinModels m₁ m₂ .values))) (sym size)
         (unfold joinModels in
-        all-both _ _ _
-        (sums-named _ _ _ (omega arith) _ (f₁ .names))
-        (sums-named _ _ _ (omega arith) _ (f₂ .names)))
+        all-both (sumNames (length (m₁ .blocks) + length (m₂ .blocks))) _ _
+        (sums-named (first m₁ m₂) (length (m₁ .blocks)) (length (m₁ .blocks) + length (m₂ .blocks)) (omega arith) (m₁ .values) (f₁ .names))
+        (sums-named (second m₁ m₂) (length (m₂ .blocks)) (length (m₁ .blocks) + length (m₂ .blocks)) (omega arith) (m₂ .values)
+        (f₂ .names)))
 
     targets : T (targetsMove (joinModels m₁ m₂))
     targets =
         unfold targetsMove joinModels in
-        all-both _ _ _ (all-lead _ (sits₁ proper₁ proper₂) (proper₁ .block) _ a₁ (unfold targetsMove in f₁ .targets))
-        (all-lead _ (sits₂ proper₁ proper₂) (proper₂ .block) _ a₂ (unfold targetsMove in f₂ .targets))
+        all-both _ _ _ (all-lead (first m₁ m₂) (sits₁ proper₁ proper₂) (proper₁ .block) (m₁ .blocks) a₁ (unfold targetsMove in f₁ .targets))
+        (all-lead (second m₁ m₂) (sits₂ proper₁ proper₂) (proper₂ .block) (m₂ .blocks) a₂ (unfold targetsMove in f₂ .targets))

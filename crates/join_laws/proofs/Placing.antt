@@ -22,15 +22,17 @@ pub record Placing (p : Part) (n joint : Counts) : Type 0 where
 module _ (p : Part) (n joint : Counts) (at : Placing p n joint) where
   pub facility-in : (f : ℕ) → f ≤ n .facilities → serverIn p f ≡ f + p .toFacility
   unfolding serverIn
-  facility-in f h = rw (le-leb f (p .facilities) (omega arith))
+  facility-in f h = rw (le-leb f (p .facilities) (omega (arith, at .own)))
 
+  -- a storage is numbered behind the facilities of both parts
   pub storage-in : (k : ℕ) → 1 ≤ k → serverIn p (n .facilities + k) ≡ joint .facilities + (k + at .among)
   unfolding serverIn
-  storage-in k h = rw (lt-leb (n .facilities + k) (p .facilities) (omega arith)) (omega arith)
+  storage-in k h = rw (lt-leb (n .facilities + k) (p .facilities) (omega (arith, at .own))) (omega (arith, at .servers))
 
+  -- in a term a server's number is stored apart from its sort
   pub own-facility : (v : ℕ) → v ≤ joint .facilities → ownNumber (joint .facilities) v ≡ v
   unfolding ownNumber
-  own-facility v h = rw le-leb
+  own-facility v h = rw (le-leb v (joint .facilities) h)
 
   pub own-storage : (k : ℕ) → 1 ≤ k → ownNumber (joint .facilities) (joint .facilities + k) ≡ k
   unfolding ownNumber

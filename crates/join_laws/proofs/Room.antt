@@ -1,8 +1,8 @@
 -- How many bytes a joined model takes at most.
-use Rattle.machine.specs.All.{ℕ, zero, suc, _*_, _/_, _%_, _≤_, arith, Bool, true, false, cond, List, [], _∷_, map, eqb, length, getD, length-append, flat, numberBytes}
+use Rattle.machine.specs.All.{ℕ, zero, suc, _*_, _/_, _%_, _≤_, arith, Bool, true, false, cond, List, [], _∷_, map, eqb, length, getD, length-append, flat, numberBytes, _-_}
 use Rattle.layout.specs.Layout as Layout
 use Rattle.codec.proofs.Numbers.{numberBytes-longest}
-use Rattle.join_laws.specs.{numbersBytes, shapeOf, operandAt, operandsFrom, blockRow, blockRows}
+use Rattle.join_laws.specs.{numbersBytes, shapeOf, operandAt, operandsFrom, blockRow, blockRows, movedBy, roleOf}
 use Rattle.join_laws.specs.declared.shift.Shift.{Shift}
 
 -- a number takes at most nine bytes
@@ -11,12 +11,12 @@ unfolding numbersBytes flat
 bytes-most [] = omega arith
 bytes-most (v ∷ l) =
     let n = length-append (numberBytes v) (flat (map numberBytes l)) in
-    omega (arith, numberBytes-longest v, bytes-most l)
+    omega (arith, n, numberBytes-longest v, bytes-most l)
 
 module _ (tables : List ℕ) (by : Shift) where
   operand-most : (at digit : ℕ) → length (operandAt tables by at digit) ≤ 1
   unfolding operandAt
-  operand-most at digit = go (eqb digit 0) _
+  operand-most at digit = go (eqb digit 0) (movedBy by (roleOf digit (getD tables (at - 1) 0)) (getD tables at 0))
     where
       go : (b : Bool) (v : ℕ) → length (cond b [] (v ∷ [])) ≤ 1
       go true v = omega arith
@@ -27,7 +27,7 @@ module _ (tables : List ℕ) (by : Shift) where
   operands-most zero at digits = omega arith
   operands-most (suc left) at digits =
       let n = length-append (operandAt tables by at (digits % 32)) (operandsFrom tables by left (suc at) (digits / 32)) in
-      omega (arith, operand-most at (digits % 32), operands-most left (suc at) (digits / 32))
+      omega (arith, n, operand-most at (digits % 32), operands-most left (suc at) (digits / 32))
 
   block-most : (at : ℕ) → length (blockRow tables by at) ≤ 7
   unfolding blockRow
@@ -39,4 +39,4 @@ module _ (tables : List ℕ) (by : Shift) where
   blocks-most zero b = omega arith
   blocks-most (suc left) b =
       let n = length-append (blockRow tables by (Layout.blockWidth * b)) (blockRows tables by left (suc b)) in
-      omega (arith, block-most (Layout.blockWidth * b), blocks-most left (suc b))
+      omega (arith, n, block-most (Layout.blockWidth * b), blocks-most left (suc b))

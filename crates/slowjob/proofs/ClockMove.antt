@@ -6,7 +6,8 @@ use our.Events.{at, Pending, Step, absent, stays, falls-due, Moved, moved, Arriv
 use our.Line.{Coming, nobody, later, here-now, Serving, idle, seized, busy, done, Line}
 
 -- statistics leave the units in use
-sampled-use : (ticks : ℕ) (l : List Server) (ql : List (List Transaction)) → getD (sampleServers ticks l ql) 0 (idleServer 0) .inUse ≡ getD l 0 (idleServer 0) .inUse
+sampled-use : (ticks : ℕ) (l : List Server) (ql : List (List Transaction))
+    → getD (sampleServers ticks l ql) 0 (idleServer 0) .inUse ≡ getD l 0 (idleServer 0) .inUse
 unfolding sampleServers
 sampled-use ticks [] ql = refl
 sampled-use ticks (v ∷ l) [] = refl
@@ -14,7 +15,8 @@ sampled-use ticks (v ∷ l) (q ∷ ql) = refl
 
 module _ (arrivals services : List ℕ) where
   -- nobody stood before GENERATE, and `now` do
-  coming-moved : {clock time arrived here now n : ℕ} {times : List ℕ} {o o′ : Option ℕ} → here ≡ 0 → now ≡ n → Coming arrivals services clock arrived here times o
+  coming-moved : {clock time arrived here now n : ℕ} {times : List ℕ} {o o′ : Option ℕ} → here ≡ 0 → now ≡ n
+      → Coming arrivals services clock arrived here times o
       → Step time o o′ n → Coming arrivals services time arrived now times o′
   coming-moved z is (nobody e) absent = nobody is
   coming-moved z is (later t e due l) (stays u) = later t is due l
@@ -34,13 +36,15 @@ module _ (arrivals services : List ℕ) where
   serving-moved ahead z2 z3 z4 is same between (done u e3 e4 one l at) absent = absurd (omega arith)
 
 module _ (m : BlockModel) (arrivals services : List ℕ) where
-  line-moved : (s : State) (e : Event) (l : List Event) → s .fel ≡ e ∷ l → s .rel ≡ [] → Line m arrivals services 0 s → Line m arrivals services 0 (moveClock (e .time) s)
+  line-moved : (s : State) (e : Event) (l : List Event) → s .fel ≡ e ∷ l → s .rel ≡ [] → Line m arrivals services 0 s
+      → Line m arrivals services 0 (moveClock (e .time) s)
   unfolding moveClock sample
   line-moved s e l is empty h =
       let time : ℕ = e .time in
       let base : State = setFel (others (due time) (s .fel)) (setView (setClock time (sample (time - s .view .clock) s .view)) s) in
       let x : Moved (s .view .clock) time (those (due time) (s .fel)) (others (due time) (s .fel)) (h .next-arrival) (h .next-service) =
-      rw is (moved (subst (λ f. Pending (s .view .clock) f (h .next-arrival) (h .next-service)) is (h .pending))) in
+      subst (λ f. Moved (s .view .clock) time (those (due time) f) (others (due time) f) (h .next-arrival) (h .next-service)) (sym is)
+      (moved (subst (λ f. Pending (s .view .clock) f (h .next-arrival) (h .next-service)) is (h .pending))) in
       let y : Arrival (those (due time) (s .fel)) base = arrive (those (due time) (s .fel)) base in
       let none-at : (n : ℕ) → sumOn (at n) (s .rel) ≡ 0 = λ n. ap (sumOn (at n)) empty in
       let now : Line m arrivals services 0 (setRel (y .rel) (setSerial (y .serial) base)) =
@@ -50,11 +54,20 @@ module _ (m : BlockModel) (arrivals services : List ℕ) where
         over = h .over;
         next-arrival = x .o′;
         next-service = x .p′;
-        lists = record { ready = y .ready (x .ready) (h .lists .ready); queued = h .lists .queued; no-wel = h .lists .no-wel; no-wsl = h .lists .no-wsl };
+        lists =
+            record {
+              ready = y .ready (x .ready) (h .lists .ready);
+              queued = h .lists .queued;
+              no-wel = h .lists .no-wel;
+              no-wsl = h .lists .no-wsl;
+            };
         pending = x .rest;
-        coming = coming-moved arrivals services (omega (arith, none-at 1)) (omega (arith, y .sums 1, x .counts 1, none-at 1)) (h .coming) (x .coming);
+        coming =
+            coming-moved arrivals services (omega (arith, none-at 1)) (omega (arith, y .sums 1, x .counts 1, none-at 1)) (h .coming)
+            (x .coming);
         serving =
-            serving-moved arrivals services (x .ahead) (omega (arith, none-at 2)) refl (omega (arith, none-at 4)) (omega (arith, y .sums 4, x .counts 4, none-at 4))
+            serving-moved arrivals services (x .ahead) (omega (arith, none-at 2)) refl (omega (arith, none-at 4))
+            (omega (arith, y .sums 4, x .counts 4, none-at 4))
             (sampled-use _ (s .view .servers) (s .ql)) (h .between) (h .serving) (x .serving);
         between = omega (arith, h .between, none-at 2, y .sums 2, x .counts 2);
         past = omega (arith, h .past, x .ahead);
@@ -62,13 +75,8 @@ module _ (m : BlockModel) (arrivals services : List ℕ) where
       } in
       subst (Line m arrivals services 0) (sym (y .is)) now
 
-  pub line-next : (l : List Event) (s : State) → s .fel ≡ l → s .rel ≡ [] → Line m arrivals services 0 s → Line m arrivals services 0 (nextEvents l s)
+  pub line-next : (l : List Event) (s : State) → s .fel ≡ l → s .rel ≡ [] → Line m arrivals services 0 s
+      → Line m arrivals services 0 (nextEvents l s)
   unfolding nextEvents
   line-next [] s is empty h = h
   line-next (e ∷ l) s is empty h = line-moved s e l is empty h
-
--- nobody comes into hand
-pub moving-next : (l : List Event) (s : State) → nextEvents l s .moving ≡ s .moving
-unfolding nextEvents moveClock
-moving-next [] s = refl
-moving-next (e ∷ l) s = ap (λ x. x .moving) (arrive _ _ .is)

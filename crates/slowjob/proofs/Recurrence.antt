@@ -1,5 +1,5 @@
 -- One service time raised by d: of the recurrence, each end is no earlier and at most d later, and how that fades.
-use Rattle.machine.specs.All.{cases, ℕ, zero, suc, _+_, _≤_, _≡_, refl, List, [], _∷_, arith, eqb-true, eqb-false, getD}
+use Rattle.machine.specs.All.{ℕ, zero, suc, _+_, _≤_, _≡_, refl, List, [], _∷_, arith, eqb-true, eqb-false, getD, ap, Bool, true, false, eqb}
 use Rattle.slowjob.specs.{raised, leaves, Fades}
 
 abbrev Within : (d before after : ℕ) → Type 0
@@ -12,7 +12,7 @@ raised-other [] i d k ne = refl
 raised-other (x ∷ l) zero d zero ne = absurd (ne refl)
 raised-other (x ∷ l) zero d (suc k) ne = refl
 raised-other (x ∷ l) (suc i) d zero ne = refl
-raised-other (x ∷ l) (suc i) d (suc k) ne = raised-other l i d k (λ e. ne (cc e))
+raised-other (x ∷ l) (suc i) d (suc k) ne = raised-other l i d k (λ e. ne (ap suc e))
 
 raised-most : (l : List ℕ) (i d : ℕ) → Within d (getD l i 0) (getD (raised i d l) i 0)
 unfolding raised
@@ -31,14 +31,18 @@ module _ (arrivals services : List ℕ) (i d : ℕ) where
   reach : (k : ℕ) → (k ≤ i → after k ≡ before k) × Within d (before k) (after k)
   unfolding leaves
   reach zero = (λ le. refl, (omega arith, omega arith))
-  reach (suc k) =
-      cases _
-      (λ e. let at : k ≡ i = eqb-true _ _ e in
-      let same = (reach k) .0 (omega arith) in
-      let time : Within d (getD services k 0) (getD (raised i d services) k 0) = rw at (raised-most services i d) in
-      (λ le. absurd (omega arith), (omega arith, omega arith)))
-      (λ e. let same = raised-other services i d k (eqb-false _ _ e) in
-      (λ le. let equal = (reach k) .0 (omega arith) in omega arith, (omega (arith, (reach k) .1), omega (arith, (reach k) .1))))
+  reach (suc k) = go (eqb k i) refl (reach k)
+    where
+      go : (b : Bool) → eqb k i ≡ b → ((k ≤ i → after k ≡ before k) × Within d (before k) (after k))
+          → (suc k ≤ i → after (suc k) ≡ before (suc k)) × Within d (before (suc k)) (after (suc k))
+      go true e h =
+          let at : k ≡ i = eqb-true _ _ e in
+          let same : after k ≡ before k = h .0 (omega arith) in
+          let time : Within d (getD services k 0) (getD (raised i d services) k 0) = rw at (raised-most services i d) in
+          (λ le. absurd (omega arith), (omega (arith, time), omega (arith, time)))
+      go false e h =
+          let same : getD (raised i d services) k 0 ≡ getD services k 0 = raised-other services i d k (eqb-false _ _ e) in
+          (λ le. let equal : after k ≡ before k = h .0 (omega arith) in omega arith, (omega (arith, h .1), omega (arith, h .1)))
 
   pub leaves-late : (k : ℕ) → Within d (before k) (after k)
   leaves-late k = reach k .1

@@ -6,31 +6,38 @@ use Rattle.machine.specs.All.{needs}
 
 pair-requires : f.Tie.Need-pair-requires
 pair-requires c κs =
-    let at = c .before .before .before .before .before in
-    let d = at .before .before .before .before .before .before in
-    let with = d .before .before .before .before .before .before .before .before .before .before .before .args in
-    pair-ready (with .model1 .now) (with .tape1 .now) (with .model2 .now) (with .tape2 .now) _ _ _ (d .before .before .decode .ensures) _ (d .a .given .1)
-    _ _ _ (at .before .before .decode2 .ensures) _ (at .b .given .1)
+    let with =
+    c .before .before .before .before .before .before .before .before .before .before .before .before .before .before .before .before .before .before .before .before .before .before .args in
+    pair-ready (with .model1 .now) (with .tape1 .now) (with .model2 .now) (with .tape2 .now) _ _ _
+    (c .before .before .before .before .before .before .before .before .before .before .before .before .before .decode .ensures) _
+    (c .before .before .before .before .before .before .before .before .before .before .before .a .given .1)
+    _ _ _ (c .before .before .before .before .before .before .before .decode2 .ensures) _
+    (c .before .before .before .before .before .b .given .1)
 
 returns : f.Tie.Need-returns
 returns c =
     let with = c .before .before .before .before .before .before .before .before .before .before .before .before .args in
-    first-refused (with .model1 .now) (with .tape1 .now) (with .model2 .now) (with .tape2 .now) _ _ _ (c .before .before .before .decode .ensures) (with .out-model .now) (with .out-tape .now) _ (c .before .n .given .1)
+    first-refused (with .model1 .now) (with .tape1 .now) (with .model2 .now) (with .tape2 .now) _ _ _
+    (c .before .before .before .decode .ensures) (with .out-model .now) (with .out-tape .now) _ (c .before .n .given .1)
 
 returns-2 : f.Tie.Need-returns-2
 returns-2 c =
-    let b = c .before .before .before .before .before .before .before in
-    let with = b .before .before .before .before .before .before .before .before .before .before .before .args in
-    second-refused (with .model1 .now) (with .tape1 .now) (with .model2 .now) (with .tape2 .now) _ _ _ (b .before .before .decode .ensures) _ (b .a .given .1)
+    let with =
+    c .before .before .before .before .before .before .before .before .before .before .before .before .before .before .before .before .before .before .args in
+    second-refused (with .model1 .now) (with .tape1 .now) (with .model2 .now) (with .tape2 .now) _ _ _
+    (c .before .before .before .before .before .before .before .before .before .decode .ensures) _
+    (c .before .before .before .before .before .before .before .a .given .1)
     _ _ _ (c .before .before .before .decode2 .ensures) (with .out-model .now) (with .out-tape .now) _ (c .before .n2 .given .1)
 
 returns-3 : f.Tie.Need-returns-3
 returns-3 c =
-    let at = c .before .before .before .before in
-    let d = at .before .before .before .before .before .before in
-    let with = d .before .before .before .before .before .before .before .before .before .before .before .before .before .before .before .before .before .args in
-    pair-done (with .model1 .now) (with .tape1 .now) (with .model2 .now) (with .tape2 .now) _ _ _ (d .before .before .before .before .before .before .before .before .decode .ensures) _ (d .before .before .before .before .before .before .a .given .1)
-    _ _ _ (d .before .before .decode2 .ensures) _ (d .b .given .1) (with .out-model .now) (with .out-tape .now) _ _ _ (at .pair .ensures)
+    let with =
+    c .before .before .before .before .before .before .before .before .before .before .before .before .before .before .before .before .before .before .before .before .before .before .before .before .before .before .before .args in
+    pair-done (with .model1 .now) (with .tape1 .now) (with .model2 .now) (with .tape2 .now) _ _ _
+    (c .before .before .before .before .before .before .before .before .before .before .before .before .before .before .before .before .before .before .decode .ensures) _ (c .before .before .before .before .before .before .before .before .before .before .before .before .before .before .before .before .a .given .1)
+    _ _ _ (c .before .before .before .before .before .before .before .before .before .before .before .before .decode2 .ensures) _
+    (c .before .before .before .before .before .before .before .before .before .before .b .given .1) (with .out-model .now)
+    (with .out-tape .now) _ _ _ (c .before .before .before .before .pair .ensures)
 
 pub join-spec : {M : Type 1} → f.Statement.statement M
 join-spec =

@@ -7,19 +7,22 @@ use Rattle.join_laws.specs.Whole.{keptRoom}
 
 returns : f.Tie.Need-returns
 returns c =
-    let b = c .before .before .before .before .before .before .before in
-    model-left _ _ (b .args .out .now) _ _ (c .before .before .model .ensures) (length-replicate {A = ℕ} keptRoom 0) (b .pre .1) (c .if1 .taken)
+    model-left _ _ (c .before .before .before .before .before .before .before .args .out .now) _ _ (c .before .before .model .ensures)
+    (length-replicate {A = ℕ} keptRoom 0) (c .before .before .before .before .before .before .before .pre .1) (c .if1 .taken)
 
 copy-requires : f.Tie.Need-copy-requires
 copy-requires c κs =
-    let d = c .before .before in
-    let b = d .before .before .before .before .before .before .before in
-    copy-room _ _ (b .args .out .now) _ _ (d .before .before .model .ensures) (length-replicate {A = ℕ} keptRoom 0) (b .pre .1) (d .if1 .left)
+    copy-room _ _ (c .before .before .before .before .before .before .before .before .before .args .out .now) _ _
+    (c .before .before .before .before .model .ensures) (length-replicate {A = ℕ} keptRoom 0)
+    (c .before .before .before .before .before .before .before .before .before .pre .1) (c .before .before .if1 .left)
 
 returns-2 : f.Tie.Need-returns-2
 returns-2 c =
-    let b = c .before .before .before .before .before in
-    model-copied _ _ (b .before .before .before .before .before .before .before .args .out .now) _ _ (b .before .before .model .ensures) (length-replicate {A = ℕ} keptRoom 0) (b .before .before .before .before .before .before .before .pre .1) _ (b .if1 .left) (c .before .before .copy .ensures)
+    model-copied _ _
+    (c .before .before .before .before .before .before .before .before .before .before .before .before .args .out .now) _ _
+    (c .before .before .before .before .before .before .before .model .ensures) (length-replicate {A = ℕ} keptRoom 0)
+    (c .before .before .before .before .before .before .before .before .before .before .before .before .pre .1) _
+    (c .before .before .before .before .before .if1 .left) (c .before .before .copy .ensures)
 
 pub joined-model-spec : {M : Type 1} → f.Statement.statement M
 joined-model-spec =

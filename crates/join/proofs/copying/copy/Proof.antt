@@ -10,6 +10,9 @@ Inv-loop from count out₀ at i₀ out i = (length out ≡ length out₀) × (i 
 abbrev μ-loop : f.Tie.MeasureT-loop
 μ-loop from count out₀ at i₀ out i = count - i
 
+loop-holds : f.Tie.Need-loop-holds Inv-loop μ-loop
+loop-holds c = (refl, omega arith, refl)
+
 loop-again : f.Tie.Need-loop-again Inv-loop μ-loop
 loop-again c = (
   (search needs),
@@ -17,7 +20,14 @@ loop-again c = (
   copy-step _ _ _ _ _ (omega (arith, c .before .loop-test .taken, c .before .before .before .pre .0)) (c .before .before .loop .inv .2),
 )
 
+same-length : f.Tie.Need-same-length Inv-loop μ-loop
+same-length c = c .before .loop .inv .0
+
+returns : f.Tie.Need-returns Inv-loop μ-loop
+returns c = copy-done _ _ _ _ _ _ (c .before .loop .inv .1) (c .loop-test .left) (c .before .loop .inv .2)
+
 pub copy-spec : {M : Type 1} → f.Statement.statement M
 copy-spec =
     f.Tie.close
-    (f.Tie.spec Inv-loop μ-loop (λ c. (refl, omega arith, refl)) (search needs) (search needs) (search needs) (search needs) (search needs) loop-again (λ c. c .before .loop .inv .0) (λ c. copy-done _ _ _ _ _ _ (c .before .loop .inv .1) (c .loop-test .left) (c .before .loop .inv .2)))
+    (f.Tie.spec Inv-loop μ-loop loop-holds (search needs) (search needs) (search needs) (search needs)
+    (search needs) loop-again same-length returns)

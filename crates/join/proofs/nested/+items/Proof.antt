@@ -160,7 +160,8 @@ items-item-requires : (t : ℕ) → items-lts.Need-item-requires (
   signs-in-reads.Asked,
   signs-in-reads.Learnt,
 ) (items-at t) items.Post
-items-item-requires t c κs = (omega (arith, c .before .before .before .if2 .left), c .before .before .before .before .before .before .before .pre .1)
+items-item-requires t c κs =
+    (omega (arith, c .before .before .before .if2 .left), c .before .before .before .before .before .before .before .pre .1)
 
 items-sub-items : (t : ℕ) → items-lts.Need-sub-items (
   number-reads.Asked,
@@ -188,7 +189,14 @@ items-items-requires : (t : ℕ) → items-lts.Need-items-requires (
   signs-in-reads.Asked,
   signs-in-reads.Learnt,
 ) (items-at t) items.Post
-items-items-requires t c κs = (omega (arith, c .before .before .before .before .before .before .before .before .before .before .before .before .pre .0, c .before .before .before .before .before .before .before .before .before .if1 .left), c .before .before .before .before .before .before .before .before .before .before .before .before .pre .1)
+items-items-requires t c κs = (
+  omega (
+    arith,
+    c .before .before .before .before .before .before .before .before .before .before .before .before .pre .0,
+    c .before .before .before .before .before .before .before .before .before .if1 .left,
+  ),
+  c .before .before .before .before .before .before .before .before .before .before .before .before .pre .1,
+)
 
 items-same-length : (t : ℕ) → items-lts.Need-same-length (
   number-reads.Asked,
@@ -216,7 +224,13 @@ items-returns-3 : (t : ℕ) → items-lts.Need-returns-3 (
   signs-in-reads.Asked,
   signs-in-reads.Learnt,
 ) (items-at t) items.Post
-items-returns-3 t c = items-plain _ _ _ _ _ _ _ (c .before .before .before .before .before .before .before .before .before .before .before .before .if1 .left) (c .before .before .before .before .before .before .before .before .before .before .before .if2 .left) _ (c .before .before .before .before .before .before .before .item .ensures) _ (c .before .before .before .before .before .before .before .before .before .before .number .ensures) (c .before .before .before .before .if3 .taken) _ _ (c .before .before .items .ensures)
+items-returns-3 t c =
+    items-plain _ _ _ _ _ _ _
+    (c .before .before .before .before .before .before .before .before .before .before .before .before .if1 .left)
+    (c .before .before .before .before .before .before .before .before .before .before .before .if2 .left) _
+    (c .before .before .before .before .before .before .before .item .ensures) _
+    (c .before .before .before .before .before .before .before .before .before .before .number .ensures)
+    (c .before .before .before .before .if3 .taken) _ _ (c .before .before .items .ensures)
 
 items-sub-items-2 : (t : ℕ) → items-lts.Need-sub-items-2 (
   number-reads.Asked,
@@ -244,7 +258,14 @@ items-items-requires-2 : (t : ℕ) → items-lts.Need-items-requires-2 (
   signs-in-reads.Asked,
   signs-in-reads.Learnt,
 ) (items-at t) items.Post
-items-items-requires-2 t c κs = (omega (arith, c .before .before .before .before .before .before .before .before .before .before .before .before .before .pre .0, c .before .before .before .before .before .before .before .before .before .before .if1 .left), c .before .before .before .before .before .before .before .before .before .before .before .before .before .pre .1)
+items-items-requires-2 t c κs = (
+  omega (
+    arith,
+    c .before .before .before .before .before .before .before .before .before .before .before .before .before .pre .0,
+    c .before .before .before .before .before .before .before .before .before .before .if1 .left,
+  ),
+  c .before .before .before .before .before .before .before .before .before .before .before .before .before .pre .1,
+)
 
 items-same-length-2 : (t : ℕ) → items-lts.Need-same-length-2 (
   number-reads.Asked,
@@ -272,7 +293,14 @@ items-returns-4 : (t : ℕ) → items-lts.Need-returns-4 (
   signs-in-reads.Asked,
   signs-in-reads.Learnt,
 ) (items-at t) items.Post
-items-returns-4 t c = items-flat _ _ _ _ _ _ _ (c .before .before .before .before .before .before .before .before .before .before .before .before .before .if1 .left) (c .before .before .before .before .before .before .before .before .before .before .before .before .if2 .left) _ (c .before .before .before .before .before .before .before .before .item .ensures) _ (c .before .before .before .before .before .before .before .before .before .before .before .number .ensures) (c .before .before .before .before .before .if3 .left) (c .before .before .before .before .if4 .taken) _ _ (c .before .before .items2 .ensures)
+items-returns-4 t c =
+    items-flat _ _ _ _ _ _ _
+    (c .before .before .before .before .before .before .before .before .before .before .before .before .before .if1 .left)
+    (c .before .before .before .before .before .before .before .before .before .before .before .before .if2 .left) _
+    (c .before .before .before .before .before .before .before .before .item .ensures) _
+    (c .before .before .before .before .before .before .before .before .before .before .before .number .ensures)
+    (c .before .before .before .before .before .if3 .left) (c .before .before .before .before .if4 .taken) _ _
+    (c .before .before .items2 .ensures)
 
 items-opened-requires : (t : ℕ) → items-lts.Need-opened-requires (
   number-reads.Asked,
@@ -328,7 +356,14 @@ items-items-requires-3 : (t : ℕ) → items-lts.Need-items-requires-3 (
   signs-in-reads.Asked,
   signs-in-reads.Learnt,
 ) (items-at t) items.Post
-items-items-requires-3 t c κs = (omega (arith, c .before .before .before .before .before .before .before .before .before .before .before .before .before .before .before .pre .0, c .before .before .before .if4 .left), c .before .signs-in .ensures .1)
+items-items-requires-3 t c κs = (
+  omega (
+    arith,
+    c .before .before .before .before .before .before .before .before .before .before .before .before .before .before .before .pre .0,
+    c .before .before .before .if4 .left,
+  ),
+  c .before .signs-in .ensures .1,
+)
 
 items-sub-items-4 : (t : ℕ) → items-lts.Need-sub-items-4 (
   number-reads.Asked,
@@ -342,7 +377,11 @@ items-sub-items-4 : (t : ℕ) → items-lts.Need-sub-items-4 (
   signs-in-reads.Asked,
   signs-in-reads.Learnt,
 ) (items-at t) items.Post
-items-sub-items-4 t c = omega (arith, c .before .before .before .before .before .before .before .before .before .before .before .before .before .before .before .if1 .left)
+items-sub-items-4 t c =
+    omega (
+      arith,
+      c .before .before .before .before .before .before .before .before .before .before .before .before .before .before .before .if1 .left,
+    )
 
 items-items-requires-4 : (t : ℕ) → items-lts.Need-items-requires-4 (
   number-reads.Asked,
@@ -356,7 +395,14 @@ items-items-requires-4 : (t : ℕ) → items-lts.Need-items-requires-4 (
   signs-in-reads.Asked,
   signs-in-reads.Learnt,
 ) (items-at t) items.Post
-items-items-requires-4 t c κs = (omega (arith, c .before .before .before .before .before .before .before .before .before .before .before .before .before .before .before .before .before .before .before .pre .0, c .before .before .before .before .before .before .before .before .before .before .before .before .before .before .before .before .if1 .left), c .before .before .before .before .before .before .before .before .before .before .before .before .before .before .before .before .before .before .before .pre .1)
+items-items-requires-4 t c κs = (
+  omega (
+    arith,
+    c .before .before .before .before .before .before .before .before .before .before .before .before .before .before .before .before .before .before .before .pre .0,
+    c .before .before .before .before .before .before .before .before .before .before .before .before .before .before .before .before .if1 .left,
+  ),
+  c .before .before .before .before .before .before .before .before .before .before .before .before .before .before .before .before .before .before .before .pre .1,
+)
 
 items-same-length-3 : (t : ℕ) → items-lts.Need-same-length-3 (
   number-reads.Asked,
@@ -385,7 +431,8 @@ items-returns-5 : (t : ℕ) → items-lts.Need-returns-5 (
   signs-in-reads.Learnt,
 ) (items-at t) items.Post
 items-returns-5 t c =
-    items-deep _ _ _ _ _ _ _ (c .before .before .before .before .before .before .before .before .before .before .before .before .before .before .before .before .before .before .before .if1 .left) (c .before .before .before .before .before .before .before .before .before .before .before .before .before .before .before .before .before .before .if2 .left) _ (c .before .before .before .before .before .before .before .before .before .before .before .before .before .before .item .ensures) _ (c .before .before .before .before .before .before .before .before .before .before .before .before .before .before .before .before .before .number .ensures) (c .before .before .before .before .before .before .before .before .before .before .before .if3 .left) (c .before .before .before .before .before .before .before .before .before .before .if4 .left) _ _ _
+    items-deep _ _ _ _ _ _ _
+    (c .before .before .before .before .before .before .before .before .before .before .before .before .before .before .before .before .before .before .before .if1 .left) (c .before .before .before .before .before .before .before .before .before .before .before .before .before .before .before .before .before .before .if2 .left) _ (c .before .before .before .before .before .before .before .before .before .before .before .before .before .before .item .ensures) _ (c .before .before .before .before .before .before .before .before .before .before .before .before .before .before .before .before .before .number .ensures) (c .before .before .before .before .before .before .before .before .before .before .before .if3 .left) (c .before .before .before .before .before .before .before .before .before .before .if4 .left) _ _ _
     (c .before .before .before .before .before .before .before .before .before .before .before .before .before .before .before .before .number2 .ensures) (c .before .before .before .before .before .before .before .before .before .opened .ensures) (c .before .before .before .before .before .before .before .before .signs-in .ensures .0) _ _ (c .before .before .before .before .before .before .items3 .ensures) _ _ (c .before .before .items4 .ensures)
 
 pub +items-spec : {M : Type 1} → statement M

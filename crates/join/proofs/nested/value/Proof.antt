@@ -5,9 +5,8 @@ use Rattle.join.proofs.nested.value as f
 
 returns : f.Tie.Need-returns
 returns c =
-    let b = c .before .before .before .before .before .before in
-    value-whole _ _ _ _ _ _ _ _ (b .before .before .number .ensures)
-    (b .emit .ensures) (c .before .before .items .ensures)
+    value-whole _ _ _ _ _ _ _ _ (c .before .before .before .before .before .before .before .before .number .ensures)
+    (c .before .before .before .before .before .before .emit .ensures) (c .before .before .items .ensures)
 
 pub value-spec : {M : Type 1} → f.Statement.statement M
 value-spec = f.Tie.close (f.Tie.spec (search needs) (search needs) (search needs) (search needs) (search needs) returns)

@@ -7,20 +7,31 @@ use Rattle.join.proofs.nested.values as f
 
 abbrev Inv-loop : f.Tie.InvT-loop
 Inv-loop tables count by out₀ to k₀ next₀ out k next =
-    (length out ≡ length out₀) × (k ≤ count) × (puts (valueRows tables by (count - k) k) (written next out) ≡ puts (valueRows tables by count 0) (written to out₀))
+    (length out ≡ length out₀) × (k ≤ count)
+    × (puts (valueRows tables by (count - k) k) (written next out) ≡ puts (valueRows tables by count 0) (written to out₀))
 
 abbrev μ-loop : f.Tie.MeasureT-loop
 μ-loop tables count by out₀ to k₀ next₀ out k next = count - k
 
+loop-holds : f.Tie.Need-loop-holds Inv-loop μ-loop
+loop-holds c = (refl, omega arith, values-start _ _ _ _)
+
 loop-again : f.Tie.Need-loop-again Inv-loop μ-loop
-loop-again c =
-    let b = c .before .before in (
-      (search needs),
-      omega arith,
-      values-step _ _ _ _ _ _ _ (b .before .before .loop-test .taken) (b .before .before .before .loop .inv .2) (b .value .ensures),
-    )
+loop-again c = (
+  (search needs),
+  omega arith,
+  values-step _ _ _ _ _ _ _ (c .before .before .before .before .loop-test .taken) (c .before .before .before .before .before .loop .inv .2)
+      (c .before .before .value .ensures),
+)
+
+same-length : f.Tie.Need-same-length Inv-loop μ-loop
+same-length c = c .before .loop .inv .0
+
+returns : f.Tie.Need-returns Inv-loop μ-loop
+returns c = values-done _ _ _ _ _ _ (c .loop-test .left) (c .before .loop .inv .2)
 
 pub values-spec : {M : Type 1} → f.Statement.statement M
 values-spec =
     f.Tie.close
-    (f.Tie.spec Inv-loop μ-loop (λ c. (refl, omega arith, values-start _ _ _ _)) (search needs) (search needs) (search needs) (search needs) (search needs) loop-again (λ c. c .before .loop .inv .0) (λ c. values-done _ _ _ _ _ _ (c .loop-test .left) (c .before .loop .inv .2)))
+    (f.Tie.spec Inv-loop μ-loop loop-holds (search needs) (search needs) (search needs) (search needs)
+    (search needs) loop-again same-length returns)

@@ -7,20 +7,30 @@ use Rattle.join.proofs.rows.blocks as f
 
 abbrev Inv-loop : f.Tie.InvT-loop
 Inv-loop tables count by out₀ to b₀ next₀ out b next =
-    (length out ≡ length out₀) × (b ≤ count) × (puts (blockRows tables by (count - b) b) (written next out) ≡ puts (blockRows tables by count 0) (written to out₀))
+    (length out ≡ length out₀) × (b ≤ count)
+    × (puts (blockRows tables by (count - b) b) (written next out) ≡ puts (blockRows tables by count 0) (written to out₀))
 
 abbrev μ-loop : f.Tie.MeasureT-loop
 μ-loop tables count by out₀ to b₀ next₀ out b next = count - b
 
+loop-holds : f.Tie.Need-loop-holds Inv-loop μ-loop
+loop-holds c = (refl, omega arith, blocks-start _ _ _ _)
+
 loop-again : f.Tie.Need-loop-again Inv-loop μ-loop
-loop-again c =
-    let b = c .before .before in (
-      (search needs),
-      omega arith,
-      blocks-step _ _ _ _ _ _ _ (b .before .before .loop-test .taken) (b .before .before .before .loop .inv .2) (b .block .ensures),
-    )
+loop-again c = (
+  (search needs),
+  omega arith,
+  blocks-step _ _ _ _ _ _ _ (c .before .before .before .before .loop-test .taken) (c .before .before .before .before .before .loop .inv .2)
+      (c .before .before .block .ensures),
+)
+
+same-length : f.Tie.Need-same-length Inv-loop μ-loop
+same-length c = c .before .loop .inv .0
+
+returns : f.Tie.Need-returns Inv-loop μ-loop
+returns c = blocks-done _ _ _ _ _ _ (c .loop-test .left) (c .before .loop .inv .2)
 
 pub blocks-spec : {M : Type 1} → f.Statement.statement M
 blocks-spec =
     f.Tie.close
-    (f.Tie.spec Inv-loop μ-loop (λ c. (refl, omega arith, blocks-start _ _ _ _)) (search needs) (search needs) (search needs) (search needs) loop-again (λ c. c .before .loop .inv .0) (λ c. blocks-done _ _ _ _ _ _ (c .loop-test .left) (c .before .loop .inv .2)))
+    (f.Tie.spec Inv-loop μ-loop loop-holds (search needs) (search needs) (search needs) (search needs) loop-again same-length returns)

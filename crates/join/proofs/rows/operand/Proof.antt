@@ -3,13 +3,19 @@ use Rattle.machine.specs.All.{arith, needs}
 use Rattle.join_laws.proofs.RowSteps.{operand-none, operand-one}
 use Rattle.join.proofs.rows.operand as f
 
+returns : f.Tie.Need-returns
+returns c = operand-none _ _ _ _ _ (c .if1 .taken)
+
+role-requires : f.Tie.Need-role-requires
+role-requires c κs = omega (arith, c .before .if1 .left)
+
 returns-2 : f.Tie.Need-returns-2
 returns-2 c =
-    let d = c .before .before in
-    let b = d .before .before .before in
-    operand-one _ _ _ _ _ _ _ _ _ (b .before .before .if1 .left) (b .before .number .ensures)
-    (b .role .ensures) (d .before .number2 .ensures) (d .emit .ensures)
+    operand-one _ _ _ _ _ _ _ _ _ (c .before .before .before .before .before .before .before .if1 .left)
+    (c .before .before .before .before .before .before .number .ensures)
+    (c .before .before .before .before .before .role .ensures) (c .before .before .before .number2 .ensures)
+    (c .before .before .emit .ensures)
 
 pub operand-spec : {M : Type 1} → f.Statement.statement M
 operand-spec =
-    f.Tie.close (f.Tie.spec (λ c. operand-none _ _ _ _ _ (c .if1 .taken)) (search needs) (search needs) (λ c κs. omega (arith, c .before .if1 .left)) (search needs) (search needs) (search needs) returns-2)
+    f.Tie.close (f.Tie.spec returns (search needs) (search needs) role-requires (search needs) (search needs) (search needs) returns-2)

@@ -7,20 +7,33 @@ use Rattle.join.proofs.rows.operands as f
 
 abbrev Inv-loop : f.Tie.InvT-loop
 Inv-loop tables at forms by out₀ to next₀ rest₀ i₀ out next rest i =
-    (length out ≡ length out₀) × (i ≤ 6) × (puts (operandsFrom tables by (6 - i) (at + i) rest) (written next out) ≡ puts (operandsFrom tables by 6 at forms) (written to out₀))
+    (length out ≡ length out₀) × (i ≤ 6)
+    × (puts (operandsFrom tables by (6 - i) (at + i) rest) (written next out) ≡ puts (operandsFrom tables by 6 at forms) (written to out₀))
 
 abbrev μ-loop : f.Tie.MeasureT-loop
 μ-loop tables at forms by out₀ to next₀ rest₀ i₀ out next rest i = 6 - i
 
+loop-holds : f.Tie.Need-loop-holds Inv-loop μ-loop
+loop-holds c = (refl, omega arith, operands-start _ _ _ _ _)
+
+operand-requires : f.Tie.Need-operand-requires Inv-loop μ-loop
+operand-requires c κs = omega arith
+
 loop-again : f.Tie.Need-loop-again Inv-loop μ-loop
-loop-again c =
-    let b = c .before .before in (
-      (search needs),
-      omega arith,
-      operands-step _ _ _ _ _ _ _ _ _ (b .before .before .loop-test .taken) (b .before .before .before .loop .inv .2) (b .operand .ensures),
-    )
+loop-again c = (
+  (search needs),
+  omega arith,
+  operands-step _ _ _ _ _ _ _ _ _ (c .before .before .before .before .loop-test .taken)
+      (c .before .before .before .before .before .loop .inv .2) (c .before .before .operand .ensures),
+)
+
+same-length : f.Tie.Need-same-length Inv-loop μ-loop
+same-length c = c .before .loop .inv .0
+
+returns : f.Tie.Need-returns Inv-loop μ-loop
+returns c = operands-done _ _ _ _ _ _ _ _ (c .loop-test .left) (c .before .loop .inv .2)
 
 pub operands-spec : {M : Type 1} → f.Statement.statement M
 operands-spec =
     f.Tie.close
-    (f.Tie.spec Inv-loop μ-loop (λ c. (refl, omega arith, operands-start _ _ _ _ _)) (search needs) (omega arith) (search needs) (search needs) loop-again (λ c. c .before .loop .inv .0) (λ c. operands-done _ _ _ _ _ _ _ _ (c .loop-test .left) (c .before .loop .inv .2)))
+    (f.Tie.spec Inv-loop μ-loop loop-holds (search needs) operand-requires (search needs) (search needs) loop-again same-length returns)

@@ -5,8 +5,10 @@ use Rattle.join.proofs.whole.program as f
 
 returns : f.Tie.Need-returns
 returns c =
-    let b = c .before .before .before .before .before .before in
-    program-whole _ _ _ _ _ _ _ _ _ (b .before .before .before .before .before .before .before .before .both .ensures) (b .before .before .before .before .both2 .ensures) (b .both3 .ensures) (c .before .before .all-blocks .ensures)
+    program-whole _ _ _ _ _ _ _ _ _
+    (c .before .before .before .before .before .before .before .before .before .before .before .before .before .before .both .ensures)
+    (c .before .before .before .before .before .before .before .before .before .before .both2 .ensures)
+    (c .before .before .before .before .before .before .both3 .ensures) (c .before .before .all-blocks .ensures)
 
 pub program-spec : {M : Type 1} → f.Statement.statement M
 program-spec = f.Tie.close (f.Tie.spec (search needs) (search needs) (search needs) (search needs) (search needs) returns)

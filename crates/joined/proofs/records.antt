@@ -1,0 +1,3 @@
+-- The records of a dry run, by rank.
+pub mod Recorded
+pub mod Ranked
