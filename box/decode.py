@@ -10,6 +10,7 @@
 
 FORMAT is docs/FORMAT.md, or FORMAT.txt of an archive.
 """
+import os
 import pathlib
 import re
 import sys
@@ -299,7 +300,10 @@ def main(words):
         sys.exit(f"decode.py: {error.filename}: {error.strerror}")
     except Wrong as wrong:
         sys.exit(f"decode.py: {wrong}")
-    print("\n".join(lines))
+    try:
+        print("\n".join(lines), flush=True)
+    except BrokenPipeError:  # the reader of the lines went away
+        os.dup2(os.open(os.devnull, os.O_WRONLY), sys.stdout.fileno())
 
 
 if __name__ == "__main__":

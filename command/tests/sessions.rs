@@ -23,6 +23,9 @@ fn scratch(name: &str) -> PathBuf {
     let _ = fs::remove_dir_all(&folder);
     let root = Path::new(env!("CARGO_MANIFEST_DIR"));
     copy(&root.join("../models"), &folder.join("models"));
+    for model in fs::read_dir(folder.join("models")).unwrap() {
+        let _ = fs::remove_dir_all(model.unwrap().path().join("archive")); // the sessions make their own
+    }
     copy(&root.join("tests/cases"), &folder.join("cases"));
     folder
 }
