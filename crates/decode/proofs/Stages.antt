@@ -12,9 +12,11 @@ use Rattle.decode.specs.{emptyTables, Capacity, noModel, StageShape, Sta
 -- ---- Facilities
 
 module _ (count v : ℕ) (l l₀ : List ℕ) where
+  -- the loop that stores capacity 1 for each facility: before it,
   pub ones-begin : sets l₀ (2560 + 0) (replicate (count - 0) 1) ≡ sets l₀ 2560 (replicate count 1)
   ones-begin = let e : count - 0 ≡ count = omega arith in rw e
 
+  -- one facility,
   pub ones-step : v < count → sets l (2560 + v) (replicate (count - v) 1) ≡ sets l₀ 2560 (replicate count 1) →
       sets (set l (2560 + v) 1) (2560 + (v + 1)) (replicate (count - (v + 1)) 1) ≡ sets l₀ 2560 (replicate count 1)
   ones-step h inv =
@@ -22,31 +24,41 @@ module _ (count v : ℕ) (l l₀ : List ℕ) where
       let f : 2560 + (v + 1) ≡ suc (2560 + v) = omega arith in
       rw f (rw e at inv)
 
-  pub ones-end : count ≤ v → sets l (2560 + v) (replicate (count - v) 1) ≡ sets l₀ 2560 (replicate count 1) → l ≡ sets l₀ 2560 (replicate count 1)
+  -- and behind it
+  pub ones-end : count ≤ v → sets l (2560 + v) (replicate (count - v) 1) ≡ sets l₀ 2560 (replicate count 1)
+      → l ≡ sets l₀ 2560 (replicate count 1)
   ones-end h inv = let e : count - v ≡ 0 = omega arith in rw e at inv
 
 -- ---- A part that was refused, or read
 
 module _ {A : Type 0} {sh : StageShape A} {m : Model} {p : Place} {cells after : List ℕ} {r : Header} where
+  -- a stage that stops gives the parser's refusal
   pub stage-refused : (P : Parsed A) {n : ℕ} → Stage sh m p cells after r P → r ≡ Refused n → P ≡ refused n
-  stage-refused (parsed a c) k told = clash (cc)
-  stage-refused (refused i) {n} k told = ap refused cc
+  stage-refused (parsed a c) k told = let e = sym told ∙ k .held .0 in clash (cc)
+  stage-refused (refused i) {n} k told = let e = sym told ∙ k .held in let f : i ≡ n = cc in ap refused f
 
   -- what was read
   pub stage-known : (G : Parsed A → Type 0) (P : Parsed A) {h : Model} {q : Place} → Stage sh m p cells after r P → r ≡ Read h q →
-      ((a : A) → h ≡ sh .header m a → q .named ≡ sh .named (p .named) a → after ≡ sh .cells m a cells → sh .fact m a → G (parsed a (cursorOf q))) → G P
+      ((a : A) → h ≡ sh .header m a → q .named ≡ sh .named (p .named) a → after ≡ sh .cells m a cells → sh .fact m a
+      → G (parsed a (cursorOf q))) → G P
   stage-known G (parsed a c) {h} {q} k told g =
+      let e = sym told ∙ k .held .0 in
+      let eh : h ≡ sh .header m a = cc in
       let eq : q ≡ placeOf c (sh .named (p .named) a) = cc in
-      (rw eq at (g a cc)) refl (k .held .1) (k .held .2)
-  stage-known G (refused i) {h} {q} k told g = clash (cc)
+      (rw eq at (g a eh)) refl (k .held .1) (k .held .2)
+  stage-known G (refused i) {h} {q} k told g = let e = sym told ∙ k .held in clash (cc)
 
   module _ {B : Type 0} (G : Parsed B → Type 0) where
-    pub stage-stop : (P : Parsed A) (f : A → Parser B) {n : ℕ} → Stage sh m p cells after r P → r ≡ Refused n → G (refused n) → G (continue P f)
+    -- so what follows it in the parser is refused too
+    pub stage-stop : (P : Parsed A) (f : A → Parser B) {n : ℕ} → Stage sh m p cells after r P → r ≡ Refused n → G (refused n)
+        → G (continue P f)
     unfolding continue
     stage-stop P f k told s = rw (stage-refused P k told) s
 
+    -- a stage that is read hands its value and its place to what follows
     pub stage-bind : (P : Parsed A) (f : A → Parser B) {h : Model} {q : Place} → Stage sh m p cells after r P → r ≡ Read h q →
-        ((a : A) → h ≡ sh .header m a → q .named ≡ sh .named (p .named) a → after ≡ sh .cells m a cells → sh .fact m a → G (f a (cursorOf q))) →
+        ((a : A) → h ≡ sh .header m a → q .named ≡ sh .named (p .named) a → after ≡ sh .cells m a cells → sh .fact m a
+        → G (f a (cursorOf q))) →
         G (continue P f)
     unfolding continue
     stage-bind P f k told g = stage-known (λ x. G (continue x f)) P k told g
@@ -54,6 +66,7 @@ module _ {A : Type 0} {sh : StageShape A} {m : Model} {p : Place} {cells after :
 pub no-header : {n : ℕ} {h : Model} {q : Place} → Refused n ≡ Read h q → ⊥
 no-header {n} {h} {q} e = clash (cc)
 
+-- what is known of the header that was read is known of the one that is answered
 pub same-header : {h k : Model} {p q : Place} (G : Model → Type 0) → G h → Read h p ≡ Read k q → G k
 same-header {h} {k} {p} {q} G g e = let f : h ≡ k = cc in rw (← f) g
 
@@ -65,6 +78,7 @@ module _ (s : List ℕ) {p a b d : Place} {v f n : ℕ} {r₁ r₂ r₃ : Taken}
     (k₃ : Takes (plainShape 0 32) b 0 [] [] r₃ (field s 3 0 32 (cursorOf b))) (t₃ : r₃ ≡ Number n d)
     (cleared : l₁ ≡ emptyTables v) (ones : l₂ ≡ sets l₁ 2560 (replicate f 1))
     (k₄ : Filled (numberShape 1 65535 1) Capacity 1 (2560 + f) d l₂ l₃ r₄ (times n (field s 3 1 65535) (cursorOf d))) where
+  -- a capacity fails its question
   pub servers-stop : {m : ℕ} → r₄ ≡ NotStored m → Stage serversShape noModel p l l₃ (Refused m) (serversField s (cursorOf p))
   unfolding serversField
   servers-stop told =
@@ -74,9 +88,18 @@ module _ (s : List ℕ) {p a b d : Place} {v f n : ℕ} {r₁ r₂ r₃ : Taken}
       (λ n₂ c₂ f₂.
       takes-bind (Stage _ _ _ _ _ _) _ _ k₃ t₃ (λ n₃ c₃ f₃. rows-end (Stage _ _ _ _ _ _) _ _ k₄ told (record { held = refl }))))
 
+  -- facilities, storages and capacities are the servers' part of the header
   pub servers-kept : {q : Place} → r₄ ≡ Done q → (e .queues ≡ 0) × (e .values ≡ 0) × (e .lists ≡ 0) × (e .counter ≡ 0) × (e .blocks ≡ 0) →
       Stage serversShape noModel p l l₃
-      (Read (record { facilities = f; storages = n; queues = e .queues; values = e .values; lists = e .lists; counter = e .counter; blocks = e .blocks }) q)
+      (Read (record {
+        facilities = f;
+        storages = n;
+        queues = e .queues;
+        values = e .values;
+        lists = e .lists;
+        counter = e .counter;
+        blocks = e .blocks;
+      }) q)
       (serversField s (cursorOf p))
   unfolding serversField
   servers-kept {q} told z =
@@ -110,6 +133,7 @@ module _ (s : List ℕ) (m : Model) {p a b : Place} {queues n : ℕ} {r₁ r₂ 
     (k₁ : Takes (plainShape 0 32) p 0 [] [] r₁ (field s 3 0 32 (cursorOf p))) (t₁ : r₁ ≡ Number queues a)
     (k₂ : Takes (plainShape 0 8) a 0 [] [] r₂ (field s 3 0 8 (cursorOf a))) (t₂ : r₂ ≡ Number n b)
     (k₃ : Filled valueShape ProperValue 64 2048 b l l₁ r₃ (valueFields s (seenByValues m queues) n 0 (cursorOf b))) where
+  -- a value fails its question
   pub things-stop : {i : ℕ} → r₃ ≡ NotStored i → Stage thingsShape m p l l₁ (Refused i) (thingsField s m (cursorOf p))
   unfolding thingsField
   things-stop told =
@@ -118,7 +142,15 @@ module _ (s : List ℕ) (m : Model) {p a b : Place} {queues n : ℕ} {r₁ r₂ 
 
   pub things-kept : {q : Place} → r₃ ≡ Done q →
       Stage thingsShape m p l l₁
-      (Read (record { facilities = m .facilities; storages = m .storages; queues = queues; values = n; lists = m .lists; counter = m .counter; blocks = m .blocks }) q)
+      (Read (record {
+        facilities = m .facilities;
+        storages = m .storages;
+        queues = queues;
+        values = n;
+        lists = m .lists;
+        counter = m .counter;
+        blocks = m .blocks;
+      }) q)
       (thingsField s m (cursorOf p))
   unfolding thingsField
   things-kept {q} told =
@@ -149,7 +181,9 @@ module _ (s : List ℕ) (m : Model) {p a b d : Place} {lists counter n : ℕ} {r
     (k₁ : Takes (plainShape 0 16) p 0 [] [] r₁ (field s 3 0 16 (cursorOf p))) (t₁ : r₁ ≡ Number lists a)
     (k₂ : Takes (plainShape 1 65535) a 0 [] [] r₂ (field s 3 1 65535 (cursorOf a))) (t₂ : r₂ ≡ Number counter b)
     (k₃ : Takes (plainShape 1 256) b 0 [] [] r₃ (field s 3 1 256 (cursorOf b))) (t₃ : r₃ ≡ Number n d)
-    (k₄ : Filled (blockShape n) (Formed n) 8 0 d l l₁ r₄ (times n (blockField s (inForce .kinds) (seenByBlocks m lists n) (capacitiesOf m l)) (cursorOf d))) where
+    (k₄ : Filled (blockShape n) (Formed n) 8 0 d l l₁ r₄
+    (times n (blockField s (inForce .kinds) (seenByBlocks m lists n) (capacitiesOf m l)) (cursorOf d))) where
+  -- a block fails its question
   pub program-stop : {i : ℕ} → r₄ ≡ NotStored i → Stage programShape m p l l₁ (Refused i) (programField s m (capacitiesOf m l) (cursorOf p))
   unfolding programField
   program-stop told =
@@ -161,7 +195,15 @@ module _ (s : List ℕ) (m : Model) {p a b d : Place} {lists counter n : ℕ} {r
 
   pub program-kept : {q : Place} → r₄ ≡ Done q →
       Stage programShape m p l l₁
-      (Read (record { facilities = m .facilities; storages = m .storages; queues = m .queues; values = m .values; lists = lists; counter = counter; blocks = n }) q)
+      (Read (record {
+        facilities = m .facilities;
+        storages = m .storages;
+        queues = m .queues;
+        values = m .values;
+        lists = lists;
+        counter = counter;
+        blocks = n;
+      }) q)
       (programField s m (capacitiesOf m l) (cursorOf p))
   unfolding programField
   program-kept {q} told =

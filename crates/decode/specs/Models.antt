@@ -12,7 +12,8 @@ unfoldable pub tablesOf : BlockModel → List ℕ
 tablesOf m =
     storedRows blockNumbers Layout.blockWidth 0 (m .blocks)
     (storedRows sumNumbers Layout.valueWidth Layout.values (m .values)
-    (serversCells (record { edition = m .edition; facilities = m .facilities; storages = length (m .capacities); capacities = m .capacities })))
+    (serversCells
+    (record { edition = m .edition; facilities = m .facilities; storages = length (m .capacities); capacities = m .capacities })))
 
 pub record ProperModel (m : BlockModel) : Type 0 where
   pub rules : m .rules ≡ inForce

@@ -54,7 +54,8 @@ serversField s = λ c.
     continue (field s 3 0 Limits.maxFacilities c₁)
     (λ f c₂.
     continue (field s 3 0 Limits.maxStorages c₂)
-    (λ n c₃. continue (times n (field s 3 1 Limits.maxCapacity) c₃) (λ l c₄. parsed (record { edition = edition; facilities = f; storages = n; capacities = l }) c₄))))
+    (λ n c₃. continue (times n (field s 3 1 Limits.maxCapacity) c₃)
+    (λ l c₄. parsed (record { edition = edition; facilities = f; storages = n; capacities = l }) c₄))))
 
 abbrev pub withServers : Model → Servers → Model
 withServers m a =
@@ -77,7 +78,8 @@ pub record ProperServers (a : Servers) : Type 0 where
 -- the cells before are forgotten
 abbrev pub serversCells : Servers → List ℕ
 serversCells a =
-    storedRows (numberShape 1 Limits.maxCapacity 1 .numbers) 1 (Layout.capacities + a .facilities) (a .capacities) (sets (emptyTables (a .edition)) Layout.capacities (replicate (a .facilities) 1))
+    storedRows (numberShape 1 Limits.maxCapacity 1 .numbers) 1 (Layout.capacities + a .facilities) (a .capacities)
+    (sets (emptyTables (a .edition)) Layout.capacities (replicate (a .facilities) 1))
 
 abbrev pub serversShape : StageShape Servers
 serversShape =

@@ -74,7 +74,9 @@ fn facilities(tables: &mut [u32; TABLES], count: usize)
 // The capacities of the storages, behind those of the facilities.
 fn capacities(s: &[u8], tables: &mut [u32; TABLES], m: Model, p: Place) -> Stored
     requires { ⌜ Within m ⌝ }
-    ensures { λ r. ⌜ Filled (numberShape 1 maxCapacity 1) Capacity 1 (Layout.capacities + m .facilities) p (now (tables .entry)) (now (tables .exit)) r (times (m .storages) (field (now (s .entry)) 3 1 maxCapacity) (cursorOf p)) ⌝ }
+    ensures { λ r. ⌜
+        Filled (numberShape 1 maxCapacity 1) Capacity 1 (Layout.capacities + m .facilities) p (now (tables .entry)) (now (tables .exit)) r
+        (times (m .storages) (field (now (s .entry)) 3 1 maxCapacity) (cursorOf p)) ⌝ }
 {
     let mut k = 0;
     let mut q = p;
@@ -102,7 +104,8 @@ fn capacities(s: &[u8], tables: &mut [u32; TABLES], m: Model, p: Place) -> Store
 
 // Edition, facilities, storages and each capacity.
 fn servers(s: &[u8], tables: &mut [u32; TABLES], p: Place) -> Header
-    ensures { λ r. ⌜ Stage serversShape noModel p (now (tables .entry)) (now (tables .exit)) r (serversField (now (s .entry)) (cursorOf p)) ⌝ }
+    ensures { λ r. ⌜
+        Stage serversShape noModel p (now (tables .entry)) (now (tables .exit)) r (serversField (now (s .entry)) (cursorOf p)) ⌝ }
     ensures within { λ r. ⌜ ((h : Model) (q : Place) → r ≡ Header.Read h q → Within h) ⌝ }
 {
     match number(s, p, 1, Model::EDITIONS) {
@@ -153,7 +156,9 @@ fn things(s: &[u8], tables: &mut [u32; TABLES], m: Model, p: Place) -> Header
 // Lists, counter, and blocks with their operands.
 fn program(s: &[u8], tables: &mut [u32; TABLES], m: Model, p: Place) -> Header
     requires { ⌜ Within m ⌝ }
-    ensures { λ r. ⌜ Stage programShape m p (now (tables .entry)) (now (tables .exit)) r (programField (now (s .entry)) m (capacitiesOf m (now (tables .entry))) (cursorOf p)) ⌝ }
+    ensures { λ r. ⌜
+        Stage programShape m p (now (tables .entry)) (now (tables .exit)) r
+        (programField (now (s .entry)) m (capacitiesOf m (now (tables .entry))) (cursorOf p)) ⌝ }
 {
     match number(s, p, 0, Model::MAX_LISTS) {
         Taken::Refused(n) => Header::Refused(n),
@@ -178,7 +183,8 @@ fn program(s: &[u8], tables: &mut [u32; TABLES], m: Model, p: Place) -> Header
 
 // Questions 3 and 4 of the whole model, and 5 of its values.
 fn model(s: &[u8], tables: &mut [u32; TABLES]) -> Header
-    ensures { λ r. ⌜ Stage modelShape noModel noPlace (now (tables .entry)) (now (tables .exit)) r (modelFields (now (s .entry)) inForce beginning) ⌝ }
+    ensures { λ r. ⌜
+        Stage modelShape noModel noPlace (now (tables .entry)) (now (tables .exit)) r (modelFields (now (s .entry)) inForce beginning) ⌝ }
 {
     let start = Place {
         position: 0,
@@ -259,7 +265,9 @@ fn sample_times(s: &[u8], at: usize, count: usize) -> Tape
 // List k (from 0): where its times begin and how many they are is kept.
 fn sample_list(s: &[u8], lists: &mut [u64; LIST_CELLS], k: usize, at: usize) -> Tape
     requires { ⌜ k < maxLists ⌝ }
-    ensures { λ r. ⌜ ((i j : ℕ) → Listed (now (s .entry)) k (now (lists .entry)) (now (lists .exit)) r (listField (now (s .entry)) inForce (cursorAt at i j))) ⌝ }
+    ensures { λ r. ⌜
+        ((i j : ℕ) → Listed (now (s .entry)) k (now (lists .entry)) (now (lists .exit)) r
+        (listField (now (s .entry)) inForce (cursorAt at i j))) ⌝ }
 {
     match tape_field(s, at, Model::MAX_SAMPLES) {
         Field::Refused(n) => Tape::Refused(n),
@@ -279,7 +287,8 @@ fn clear_lists(lists: &mut [u64; LIST_CELLS])
 
 fn sample_lists(s: &[u8], lists: &mut [u64; LIST_CELLS], count: usize) -> Tape
     requires { ⌜ count ≤ maxLists ⌝ }
-    ensures { λ r. ⌜ Lists (now (s .entry)) 0 (now (lists .entry)) (now (lists .exit)) r (times count (listField (now (s .entry)) inForce) beginning) ⌝ }
+    ensures { λ r. ⌜
+        Lists (now (s .entry)) 0 (now (lists .entry)) (now (lists .exit)) r (times count (listField (now (s .entry)) inForce) beginning) ⌝ }
 {
     let mut k = 0;
     let mut next = 0;
@@ -323,7 +332,9 @@ pub fn decode(
     tables: &mut [u32; TABLES],
     lists: &mut [u64; LIST_CELLS],
 ) -> Decoded
-    ensures { λ r. ⌜ Decodes (now (tape .entry)) r (now (tables .exit)) (now (lists .exit)) (answer inForce (now (model .entry)) (now (tape .entry)) «work_len» «report_len») ⌝ }
+    ensures { λ r. ⌜
+        Decodes (now (tape .entry)) r (now (tables .exit)) (now (lists .exit))
+        (answer inForce (now (model .entry)) (now (tape .entry)) «work_len» «report_len») ⌝ }
 {
     if work_len < Model::WORK_NUMBERS {
         return Decoded::Refused(SHORT_WORK);

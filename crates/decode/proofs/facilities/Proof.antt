@@ -6,10 +6,23 @@ use our.Stages.{ones-begin, ones-step, ones-end}
 use our.facilities as f
 
 abbrev Inv-loop : f.Tie.InvT-loop
-Inv-loop tables₀ count v₀ tables v = (v ≤ count) × (sets tables (2560 + v) (replicate (count - v) 1) ≡ sets tables₀ 2560 (replicate count 1))
+Inv-loop tables₀ count v₀ tables v =
+    (v ≤ count) × (sets tables (2560 + v) (replicate (count - v) 1) ≡ sets tables₀ 2560 (replicate count 1))
 
 abbrev μ-loop : f.Tie.MeasureT-loop
 μ-loop tables₀ count v₀ tables v = count - v
+
+loop-holds : f.Tie.Need-loop-holds Inv-loop μ-loop
+loop-holds c =
+    (omega arith, ones-begin (c .args .count) 0 (c .args .tables .now) _)
+
+loop-again : f.Tie.Need-loop-again Inv-loop μ-loop
+loop-again c =
+    (omega arith, ones-step _ _ _ _ (c .loop-test .taken) (c .before .loop .inv .1))
+
+returns : f.Tie.Need-returns Inv-loop μ-loop
+returns c =
+    ones-end _ _ _ _ (c .loop-test .left) (c .before .loop .inv .1)
 
 pub facilities-spec : {M : Type 1} → f.Statement.statement M
 facilities-spec =
@@ -17,11 +30,11 @@ facilities-spec =
     (f.Tie.spec
     Inv-loop
     μ-loop
-    (λ c. (omega arith, ones-begin (c .args .count) 0 (c .args .tables .now) _))
+    loop-holds
     (omega arith)
     (omega arith)
     (omega arith)
     (omega arith)
     (omega arith)
-    (λ c. (omega arith, ones-step _ _ _ _ (c .loop-test .taken) (c .before .loop .inv .1)))
-    (λ c. ones-end _ _ _ _ (c .loop-test .left) (c .before .loop .inv .1)))
+    loop-again
+    returns)

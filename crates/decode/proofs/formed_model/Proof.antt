@@ -4,42 +4,96 @@ use Rattle.decode.proofs as our
 use our.Models.{formed-stop, few-blocks, formed-long, formed-misplaced, formed-target, formed-name, formed-broken, formed-model}
 use our.formed_model as f
 
-returns-2 : f.Tie.Need-returns-2
-returns-2 c =
-    let b = c .before .before .before in
-    formed-misplaced _ (b .before .before .before .before .before .model .ensures) (b .before .before .before .m .given .1) (b .if1 .left) (sym (c .before .well-placed .ensures) ∙ not-true _ (c .if2 .taken))
+returns-refused : f.Tie.Need-returns
+returns-refused c =
+    let at-m : f.Tie.After-m = search in
+    let at-model : f.Tie.After-model = search in
+    formed-long _ (at-model .model .ensures) (at-m .m .given .1) (c .if1 .taken)
 
-returns-3 : f.Tie.Need-returns-3
-returns-3 c =
-    let b = c .before .before .before in
-    formed-target _ (b .before .before .before .before .before .before .before .before .model .ensures) (b .before .before .before .before .before .before .m .given .1) (b .before .before .before .if1 .left) (sym (b .before .well-placed .ensures) ∙ not-false _ (b .if2 .left))
+well-placed-requires : f.Tie.Need-well-placed-requires
+well-placed-requires c κs =
+    let at-m : f.Tie.After-m = search in
+    let at-model : f.Tie.After-model = search in
+    few-blocks _ (at-model .model .ensures) (at-m .m .given .1)
+
+returns-position-is-not-len : f.Tie.Need-returns-2
+returns-position-is-not-len c =
+    let at-else1 : f.Tie.Else1 = search in
+    let at-m : f.Tie.After-m = search in
+    let at-model : f.Tie.After-model = search in
+    formed-misplaced _ (at-model .model .ensures) (at-m .m .given .1) (at-else1 .if1 .left)
+    (sym (c .before .well-placed .ensures) ∙ not-true _ (c .if2 .taken))
+
+targets-move-requires : f.Tie.Need-targets-move-requires
+targets-move-requires c κs =
+    let at-m : f.Tie.After-m = search in
+    let at-model : f.Tie.After-model = search in
+    few-blocks _ (at-model .model .ensures) (at-m .m .given .1)
+
+returns-not-well-placed : f.Tie.Need-returns-3
+returns-not-well-placed c =
+    let at-else2 : f.Tie.Else2 = search in
+    let at-well-placed : f.Tie.After-well-placed = search in
+    let at-else1 : f.Tie.Else1 = search in
+    let at-m : f.Tie.After-m = search in
+    let at-model : f.Tie.After-model = search in
+    formed-target _ (at-model .model .ensures) (at-m .m .given .1) (at-else1 .if1 .left)
+    (sym (at-well-placed .well-placed .ensures) ∙ not-false _ (at-else2 .if2 .left))
     (sym (c .before .targets-move .ensures) ∙ not-true _ (c .if3 .taken))
 
-returns-4 : f.Tie.Need-returns-4
-returns-4 c =
-    let d = c .before .before in
-    let b = d .before .before .before in
-    formed-name _ (b .before .before .before .before .before .before .before .before .model .ensures) (b .before .before .before .before .before .before .m .given .1) (b .before .before .before .if1 .left) (sym (b .before .well-placed .ensures) ∙ not-false _ (b .if2 .left))
-    (sym (d .before .targets-move .ensures) ∙ not-false _ (d .if3 .left)) (c .if4 .taken)
+returns-not-targets-move : f.Tie.Need-returns-4
+returns-not-targets-move c =
+    let at-else3 : f.Tie.Else3 = search in
+    let at-targets-move : f.Tie.After-targets-move = search in
+    let at-else2 : f.Tie.Else2 = search in
+    let at-well-placed : f.Tie.After-well-placed = search in
+    let at-else1 : f.Tie.Else1 = search in
+    let at-m : f.Tie.After-m = search in
+    let at-model : f.Tie.After-model = search in
+    formed-name _ (at-model .model .ensures) (at-m .m .given .1) (at-else1 .if1 .left)
+    (sym (at-well-placed .well-placed .ensures) ∙ not-false _ (at-else2 .if2 .left))
+    (sym (at-targets-move .targets-move .ensures) ∙ not-false _ (at-else3 .if3 .left)) (c .if4 .taken)
 
 groups-whole-requires : f.Tie.Need-groups-whole-requires
 groups-whole-requires c κs =
-    let b = c .before .before .before .before .before .before .before .before .before .before .before .before in
-    few-blocks _ (b .before .before .model .ensures) (b .m .given .1)
+    let at-m : f.Tie.After-m = search in
+    let at-model : f.Tie.After-model = search in
+    few-blocks _ (at-model .model .ensures) (at-m .m .given .1)
 
-returns-5 : f.Tie.Need-returns-5
-returns-5 c =
-    let d = c .before .before .before .before .before in
-    let b = d .before .before .before in
-    formed-broken _ (b .before .before .before .before .before .before .before .before .model .ensures) (b .before .before .before .before .before .before .m .given .1) (b .before .before .before .if1 .left) (sym (b .before .well-placed .ensures) ∙ not-false _ (b .if2 .left))
-    (sym (d .before .targets-move .ensures) ∙ not-false _ (d .if3 .left)) (c .before .before .before .if4 .left) (sym (c .before .groups-whole .ensures) ∙ not-true _ (c .if5 .taken))
+returns-count-below-named : f.Tie.Need-returns-5
+returns-count-below-named c =
+    let at-else4 : f.Tie.Else4 = search in
+    let at-else3 : f.Tie.Else3 = search in
+    let at-targets-move : f.Tie.After-targets-move = search in
+    let at-else2 : f.Tie.Else2 = search in
+    let at-well-placed : f.Tie.After-well-placed = search in
+    let at-else1 : f.Tie.Else1 = search in
+    let at-m : f.Tie.After-m = search in
+    let at-model : f.Tie.After-model = search in
+    formed-broken _ (at-model .model .ensures) (at-m .m .given .1) (at-else1 .if1 .left)
+    (sym (at-well-placed .well-placed .ensures) ∙ not-false _ (at-else2 .if2 .left))
+    (sym (at-targets-move .targets-move .ensures) ∙ not-false _ (at-else3 .if3 .left)) (at-else4 .if4 .left)
+    (sym (c .before .groups-whole .ensures) ∙ not-true _ (c .if5 .taken))
 
-returns-7 : f.Tie.Need-returns-7
-returns-7 c =
-    let d = c .before .before .before .before .before in
-    let b = d .before .before .before in
-    formed-model _ (b .before .before .before .before .before .before .before .before .model .ensures) (b .before .before .before .before .before .before .m .given .1) (b .before .before .before .if1 .left) (sym (b .before .well-placed .ensures) ∙ not-false _ (b .if2 .left))
-    (sym (d .before .targets-move .ensures) ∙ not-false _ (d .if3 .left)) (c .before .before .before .if4 .left) (sym (c .before .groups-whole .ensures) ∙ not-false _ (c .if5 .left))
+returns-not-groups-whole : f.Tie.Need-returns-6
+returns-not-groups-whole c =
+    let at-model : f.Tie.After-model = search in
+    formed-stop _ (at-model .model .ensures) (c .before .n .given .1)
+
+returns-read : f.Tie.Need-returns-7
+returns-read c =
+    let at-else4 : f.Tie.Else4 = search in
+    let at-else3 : f.Tie.Else3 = search in
+    let at-targets-move : f.Tie.After-targets-move = search in
+    let at-else2 : f.Tie.Else2 = search in
+    let at-well-placed : f.Tie.After-well-placed = search in
+    let at-else1 : f.Tie.Else1 = search in
+    let at-m : f.Tie.After-m = search in
+    let at-model : f.Tie.After-model = search in
+    formed-model _ (at-model .model .ensures) (at-m .m .given .1) (at-else1 .if1 .left)
+    (sym (at-well-placed .well-placed .ensures) ∙ not-false _ (at-else2 .if2 .left))
+    (sym (at-targets-move .targets-move .ensures) ∙ not-false _ (at-else3 .if3 .left)) (at-else4 .if4 .left)
+    (sym (c .before .groups-whole .ensures) ∙ not-false _ (c .if5 .left))
 
 pub formed-model-spec : {M : Type 1} → f.Statement.statement M
 formed-model-spec =
@@ -48,13 +102,13 @@ formed-model-spec =
     (search needs)
     (search needs)
     (search needs)
-    (λ c. formed-long _ (c .before .before .before .before .before .model .ensures) (c .before .before .before .m .given .1) (c .if1 .taken))
-    (λ c κs. let b = c .before .before .before .before in few-blocks _ (b .before .before .model .ensures) (b .m .given .1))
-    returns-2
-    (λ c κs. let b = c .before .before .before .before .before .before .before in few-blocks _ (b .before .before .model .ensures) (b .m .given .1))
-    returns-3
-    returns-4
+    returns-refused
+    well-placed-requires
+    returns-position-is-not-len
+    targets-move-requires
+    returns-not-well-placed
+    returns-not-targets-move
     groups-whole-requires
-    returns-5
-    (λ c. formed-stop _ (c .before .before .before .model .ensures) (c .before .n .given .1))
-    returns-7)
+    returns-count-below-named
+    returns-not-groups-whole
+    returns-read)

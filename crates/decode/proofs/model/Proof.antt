@@ -4,15 +4,38 @@ use our.Models.{model-stop, model-stop-2, model-kept}
 use our.model as f
 use Rattle.machine.specs.All.{needs}
 
-returns-2 : f.Tie.Need-returns-2
-returns-2 c =
-    let b = c .before .before .before in
-    model-stop-2 _ (b .before .before .before .before .before .servers .ensures .0) (b .before .before .before .a .given .1) (b .things .ensures .0) _ (c .before .n2 .given .1)
+things-requires : f.Tie.Need-things-requires
+things-requires c κs =
+    let at-a : f.Tie.After-a = search in
+    let at-servers : f.Tie.After-servers = search in
+    at-servers .servers .ensures .1 _ _ (at-a .a .given .1)
 
-returns-3 : f.Tie.Need-returns-3
-returns-3 c =
-    let d = c .before .before .before .before .before in
-    model-kept _ (d .before .before .before .before .before .servers .ensures .0) (d .before .before .before .a .given .1) (d .things .ensures .0) (c .before .before .before .b .given .1) (c .program .ensures)
+program-requires : f.Tie.Need-program-requires
+program-requires c κs =
+    let at-b : f.Tie.After-b = search in
+    let at-things : f.Tie.After-things = search in
+    at-things .things .ensures .1 _ _ (at-b .b .given .1)
+
+returns-refused-servers : f.Tie.Need-returns
+returns-refused-servers c =
+    let at-servers : f.Tie.After-servers = search in
+    model-stop _ (at-servers .servers .ensures .0) _ (c .before .n .given .1)
+
+returns-refused-things : f.Tie.Need-returns-2
+returns-refused-things c =
+    let at-things : f.Tie.After-things = search in
+    let at-a : f.Tie.After-a = search in
+    let at-servers : f.Tie.After-servers = search in
+    model-stop-2 _ (at-servers .servers .ensures .0) (at-a .a .given .1) (at-things .things .ensures .0) _ (c .before .n2 .given .1)
+
+returns-read : f.Tie.Need-returns-3
+returns-read c =
+    let at-b : f.Tie.After-b = search in
+    let at-things : f.Tie.After-things = search in
+    let at-a : f.Tie.After-a = search in
+    let at-servers : f.Tie.After-servers = search in
+    model-kept _ (at-servers .servers .ensures .0) (at-a .a .given .1) (at-things .things .ensures .0) (at-b .b .given .1)
+    (c .program .ensures)
 
 pub model-spec : {M : Type 1} → f.Statement.statement M
 model-spec =
@@ -21,10 +44,10 @@ model-spec =
     (search needs)
     (search needs)
     (search needs)
-    (λ c κs. c .before .before .before .before .servers .ensures .1 _ _ (c .before .before .a .given .1))
+    things-requires
     (search needs)
     (search needs)
-    (λ c κs. c .before .before .before .before .things .ensures .1 _ _ (c .before .before .b .given .1))
-    (λ c. model-stop _ (c .before .before .before .servers .ensures .0) _ (c .before .n .given .1))
-    returns-2
-    returns-3)
+    program-requires
+    returns-refused-servers
+    returns-refused-things
+    returns-read)

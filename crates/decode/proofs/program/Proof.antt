@@ -8,41 +8,75 @@ use our.program as f
 
 blocks-requires : f.Tie.Need-blocks-requires
 blocks-requires c κs =
-    let d = c .before .before in
-    let b = d .before .before .before .before .before .before .before .before in
-    let w = b .before .before .before .before .pre in
-    let n = d .before .before .number3 .ensures .1 _ _ (d .block-count .given .1) in
-    record { facilities = w .facilities; storages = w .storages; queues = w .queues; values = w .values; lists = (b .before .before .number .ensures .1 _ _ (b .lists .given .1)) .1; blocks = n .1 }
+    let at-block-count : f.Tie.After-block-count = search in
+    let at-number3 : f.Tie.After-number3 = search in
+    let at-lists : f.Tie.After-lists = search in
+    let at-number : f.Tie.After-number = search in
+    let start : f.Tie.Start = search in
+    let w = start .pre in
+    let n = at-number3 .number3 .ensures .1 _ _ (at-block-count .block-count .given .1) in
+    record {
+      facilities = w .facilities;
+      storages = w .storages;
+      queues = w .queues;
+      values = w .values;
+      lists = (at-number .number .ensures .1 _ _ (at-lists .lists .given .1)) .1;
+      blocks = n .1;
+    }
 
-returns-2 : f.Tie.Need-returns-2
+returns-refused-number : f.Tie.Need-returns
 unfolding programField
-returns-2 c =
-    let b = c .before .before .before in
-    takes-bind (Stage _ _ _ _ _ _) _ _ (b .before .before .before .before .number .ensures .0) (b .before .before .lists .given .1)
-    (λ n₁ c₁ f₁. takes-stop (Stage _ _ _ _ _ _) _ _ (b .number2 .ensures .0) (c .before .n2 .given .1) (record { held = refl }))
+returns-refused-number c =
+    let at-number : f.Tie.After-number = search in
+    takes-stop (Stage _ _ _ _ _ _) _ _ (at-number .number .ensures .0) (c .before .n .given .1) (record { held = refl })
 
-returns-3 : f.Tie.Need-returns-3
+returns-refused-number-2 : f.Tie.Need-returns-2
 unfolding programField
-returns-3 c =
-    let b = c .before .before .before .before .before in
-    takes-bind (Stage _ _ _ _ _ _) _ _ (b .before .before .before .before .before .before .number .ensures .0) (b .before .before .before .before .lists .given .1)
+returns-refused-number-2 c =
+    let at-number2 : f.Tie.After-number2 = search in
+    let at-lists : f.Tie.After-lists = search in
+    let at-number : f.Tie.After-number = search in
+    takes-bind (Stage _ _ _ _ _ _) _ _ (at-number .number .ensures .0) (at-lists .lists .given .1)
+    (λ n₁ c₁ f₁. takes-stop (Stage _ _ _ _ _ _) _ _ (at-number2 .number2 .ensures .0) (c .before .n2 .given .1) (record { held = refl }))
+
+returns-refused-number-3 : f.Tie.Need-returns-3
+unfolding programField
+returns-refused-number-3 c =
+    let at-number3 : f.Tie.After-number3 = search in
+    let at-counter : f.Tie.After-counter = search in
+    let at-number2 : f.Tie.After-number2 = search in
+    let at-lists : f.Tie.After-lists = search in
+    let at-number : f.Tie.After-number = search in
+    takes-bind (Stage _ _ _ _ _ _) _ _ (at-number .number .ensures .0) (at-lists .lists .given .1)
     (λ n₁ c₁ f₁.
-    takes-bind (Stage _ _ _ _ _ _) _ _ (b .before .before .number2 .ensures .0) (b .counter .given .1)
-    (λ n₂ c₂ f₂. takes-stop (Stage _ _ _ _ _ _) _ _ (c .before .before .before .number3 .ensures .0) (c .before .n3 .given .1) (record { held = refl })))
+    takes-bind (Stage _ _ _ _ _ _) _ _ (at-number2 .number2 .ensures .0) (at-counter .counter .given .1)
+    (λ n₂ c₂ f₂. takes-stop (Stage _ _ _ _ _ _) _ _ (at-number3 .number3 .ensures .0) (c .before .n3 .given .1) (record { held = refl })))
 
-returns-4 : f.Tie.Need-returns-4
-returns-4 c =
-    let d = c .before .before .before in
-    let b = d .before .before .before .before .before in
-    program-stop _ _ (b .before .before .before .before .before .before .before .before .number .ensures .0) (b .before .before .before .before .before .before .lists .given .1) (b .before .before .before .before .number2 .ensures .0) (b .before .before .counter .given .1)
-    (b .number3 .ensures .0) (d .before .before .before .block-count .given .1) (d .blocks2 .ensures) (c .before .n4 .given .1)
+returns-refused-blocks : f.Tie.Need-returns-4
+returns-refused-blocks c =
+    let at-blocks2 : f.Tie.After-blocks2 = search in
+    let at-block-count : f.Tie.After-block-count = search in
+    let at-number3 : f.Tie.After-number3 = search in
+    let at-counter : f.Tie.After-counter = search in
+    let at-number2 : f.Tie.After-number2 = search in
+    let at-lists : f.Tie.After-lists = search in
+    let at-number : f.Tie.After-number = search in
+    program-stop _ _ (at-number .number .ensures .0) (at-lists .lists .given .1) (at-number2 .number2 .ensures .0)
+    (at-counter .counter .given .1)
+    (at-number3 .number3 .ensures .0) (at-block-count .block-count .given .1) (at-blocks2 .blocks2 .ensures) (c .before .n4 .given .1)
 
-returns-5 : f.Tie.Need-returns-5
-returns-5 c =
-    let d = c .before .before .before in
-    let b = d .before .before .before .before .before in
-    program-kept _ _ (b .before .before .before .before .before .before .before .before .number .ensures .0) (b .before .before .before .before .before .before .lists .given .1) (b .before .before .before .before .number2 .ensures .0) (b .before .before .counter .given .1)
-    (b .number3 .ensures .0) (d .before .before .before .block-count .given .1) (d .blocks2 .ensures) (c .before .q .given .1)
+returns-done : f.Tie.Need-returns-5
+returns-done c =
+    let at-blocks2 : f.Tie.After-blocks2 = search in
+    let at-block-count : f.Tie.After-block-count = search in
+    let at-number3 : f.Tie.After-number3 = search in
+    let at-counter : f.Tie.After-counter = search in
+    let at-number2 : f.Tie.After-number2 = search in
+    let at-lists : f.Tie.After-lists = search in
+    let at-number : f.Tie.After-number = search in
+    program-kept _ _ (at-number .number .ensures .0) (at-lists .lists .given .1) (at-number2 .number2 .ensures .0)
+    (at-counter .counter .given .1)
+    (at-number3 .number3 .ensures .0) (at-block-count .block-count .given .1) (at-blocks2 .blocks2 .ensures) (c .before .q .given .1)
 
 pub program-spec : {M : Type 1} → f.Statement.statement M
 program-spec =
@@ -60,8 +94,8 @@ program-spec =
     blocks-requires
     (search needs)
     (search needs)
-    (λ c. unfold programField in takes-stop (Stage _ _ _ _ _ _) _ _ (c .before .before .before .number .ensures .0) (c .before .n .given .1) (record { held = refl }))
-    returns-2
-    returns-3
-    returns-4
-    returns-5)
+    returns-refused-number
+    returns-refused-number-2
+    returns-refused-number-3
+    returns-refused-blocks
+    returns-done)

@@ -11,12 +11,28 @@ Inv-loop s lists₀ count k₀ next₀ lists k next = (k ≤ count) × Leading s
 abbrev μ-loop : f.Tie.MeasureT-loop
 μ-loop s lists₀ count k₀ next₀ lists k next = count - k
 
+returns-refused : f.Tie.Need-returns Inv-loop μ-loop
+returns-refused c =
+    let at-sample-list : f.Tie.After-sample-list Inv-loop μ-loop = search in
+    let at-loop-test : f.Tie.In-loop Inv-loop μ-loop = search in
+    let at-loop : f.Tie.At-loop Inv-loop μ-loop = search in
+    at-loop .loop .inv .1 _ _
+    (lists-stop _ _ _ _ _ _ _ (at-loop-test .loop-test .taken) (at-sample-list .sample-list .ensures) _ (c .before .n .given .1))
+
 loop-again : f.Tie.Need-loop-again Inv-loop μ-loop
 loop-again c =
-    let b = c .before .before .before in (
+    let at-sample-list : f.Tie.After-sample-list Inv-loop μ-loop = search in
+    let at-loop-test : f.Tie.In-loop Inv-loop μ-loop = search in
+    let at-loop : f.Tie.At-loop Inv-loop μ-loop = search in (
       omega arith,
-      λ after r h. b .before .before .before .loop .inv .1 after r (lists-step _ _ _ _ _ _ _ (b .before .before .loop-test .taken) (b .sample-list .ensures) (c .before .after .given .1) after r h),
+      λ after r h. at-loop .loop .inv .1 after r
+          (lists-step _ _ _ _ _ _ _ (at-loop-test .loop-test .taken) (at-sample-list .sample-list .ensures)
+          (c .before .after .given .1) after r h),
     )
+
+returns-last : f.Tie.Need-returns-2 Inv-loop μ-loop
+returns-last c =
+    c .before .loop .inv .1 _ _ (lists-none _ _ _ _ _ (c .loop-test .left))
 
 pub sample-lists-spec : {M : Type 1} → f.Statement.statement M
 sample-lists-spec =
@@ -27,9 +43,9 @@ sample-lists-spec =
     (λ c. (omega arith, lists-begin _ _ _))
     (λ c κs. omega arith)
     (search needs)
-    (λ c. let b = c .before .before .before in b .before .before .before .loop .inv .1 _ _ (lists-stop _ _ _ _ _ _ _ (b .before .before .loop-test .taken) (b .sample-list .ensures) _ (c .before .n .given .1)))
+    returns-refused
     (search needs)
     (omega arith)
     (omega arith)
     loop-again
-    (λ c. c .before .loop .inv .1 _ _ (lists-none _ _ _ _ _ (c .loop-test .left))))
+    returns-last)

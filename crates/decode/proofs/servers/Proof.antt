@@ -9,57 +9,118 @@ use our.servers as own
 
 cast-clear : own.Tie.Need-cast-clear
 cast-clear c =
-    let b = c .before .before .before .before .before .before .before .before .before .before .before in
-    omega (arith, (b .before .before .number .ensures .1 _ _ (b .edition .given .1)) .1)
+    let at-edition : own.Tie.After-edition = search in
+    let at-number : own.Tie.After-number = search in
+    omega (arith, (at-number .number .ensures .1 _ _ (at-edition .edition .given .1)) .1)
+
+facilities-requires : own.Tie.Need-facilities-requires
+facilities-requires c κs =
+    let at-facility-count : own.Tie.After-facility-count = search in
+    let at-number2 : own.Tie.After-number2 = search in
+    (at-number2 .number2 .ensures .1 _ _ (at-facility-count .facility-count .given .1)) .1
 
 capacities-requires : own.Tie.Need-capacities-requires
 capacities-requires c κs =
-    let d = c .before .before .before .before .before in
-    let b = d .before .before in
-    let n = b .before .before .number3 .ensures .1 _ _ (b .storages .given .1) in
-    let z = d .empty .ensures .0 in
-    record { facilities = (b .before .before .before .before .before .before .number2 .ensures .1 _ _ (b .before .before .before .before .facility-count .given .1)) .1; storages = n .1; queues = omega arith; values = omega arith; lists = omega arith; blocks = omega arith }
+    let at-empty : own.Tie.After-empty = search in
+    let at-storages : own.Tie.After-storages = search in
+    let at-number3 : own.Tie.After-number3 = search in
+    let at-facility-count : own.Tie.After-facility-count = search in
+    let at-number2 : own.Tie.After-number2 = search in
+    let n = at-number3 .number3 .ensures .1 _ _ (at-storages .storages .given .1) in
+    let z = at-empty .empty .ensures .0 in
+    record {
+      facilities = (at-number2 .number2 .ensures .1 _ _ (at-facility-count .facility-count .given .1)) .1;
+      storages = n .1;
+      queues = omega arith;
+      values = omega arith;
+      lists = omega arith;
+      blocks = omega arith;
+    }
 
-returns-2 : own.Tie.Need-returns-2
+returns-refused-number : own.Tie.Need-returns
 unfolding serversField
-returns-2 c =
-    let b = c .before .before .before in (
-      takes-bind (Stage _ _ _ _ _ _) _ _ (b .before .before .before .before .number .ensures .0) (b .before .before .edition .given .1)
-          (λ n₁ c₁ f₁. takes-stop (Stage _ _ _ _ _ _) _ _ (b .number2 .ensures .0) (c .before .n2 .given .1) (record { held = refl })),
+returns-refused-number c =
+    let at-number : own.Tie.After-number = search in (
+      takes-stop (Stage _ _ _ _ _ _) _ _ (at-number .number .ensures .0) (c .before .n .given .1) (record { held = refl }),
+      λ h q e.
+          absurd (no-header e),
+    )
+
+returns-refused-number-2 : own.Tie.Need-returns-2
+unfolding serversField
+returns-refused-number-2 c =
+    let at-number2 : own.Tie.After-number2 = search in
+    let at-edition : own.Tie.After-edition = search in
+    let at-number : own.Tie.After-number = search in (
+      takes-bind (Stage _ _ _ _ _ _) _ _ (at-number .number .ensures .0) (at-edition .edition .given .1)
+          (λ n₁ c₁ f₁. takes-stop (Stage _ _ _ _ _ _) _ _ (at-number2 .number2 .ensures .0) (c .before .n2 .given .1)
+          (record { held = refl })),
       λ h q e. absurd (no-header e),
     )
 
-returns-3 : own.Tie.Need-returns-3
+returns-refused-number-3 : own.Tie.Need-returns-3
 unfolding serversField
-returns-3 c =
-    let b = c .before .before .before .before .before in (
-      takes-bind (Stage _ _ _ _ _ _) _ _ (b .before .before .before .before .before .before .number .ensures .0) (b .before .before .before .before .edition .given .1)
+returns-refused-number-3 c =
+    let at-number3 : own.Tie.After-number3 = search in
+    let at-facility-count : own.Tie.After-facility-count = search in
+    let at-number2 : own.Tie.After-number2 = search in
+    let at-edition : own.Tie.After-edition = search in
+    let at-number : own.Tie.After-number = search in (
+      takes-bind (Stage _ _ _ _ _ _) _ _ (at-number .number .ensures .0) (at-edition .edition .given .1)
           (λ n₁ c₁ f₁.
-          takes-bind (Stage _ _ _ _ _ _) _ _ (b .before .before .number2 .ensures .0) (b .facility-count .given .1)
-          (λ n₂ c₂ f₂. takes-stop (Stage _ _ _ _ _ _) _ _ (c .before .before .before .number3 .ensures .0) (c .before .n3 .given .1) (record { held = refl }))),
+          takes-bind (Stage _ _ _ _ _ _) _ _ (at-number2 .number2 .ensures .0) (at-facility-count .facility-count .given .1)
+          (λ n₂ c₂ f₂. takes-stop (Stage _ _ _ _ _ _) _ _ (at-number3 .number3 .ensures .0) (c .before .n3 .given .1)
+          (record { held = refl }))),
       λ h q e. absurd (no-header e),
     )
 
-returns-4 : own.Tie.Need-returns-4
-returns-4 c =
-    let d = c .before .before .before .before .before in
-    let b = d .before .before .before .before .before .before in (
-      servers-stop _ _ (d .before .before .before .before .empty .result) (b .before .before .before .before .before .before .before .before .before .before .number .ensures .0) (b .before .before .before .before .before .before .before .before .edition .given .1) (b .before .before .before .before .before .before .number2 .ensures .0) (b .before .before .before .before .facility-count .given .1)
-          (b .before .before .number3 .ensures .0) (b .storages .given .1) (d .before .before .clear .ensures) (d .facilities .ensures) (c .before .before .before .capacities .ensures) (c .before .n4 .given .1),
+returns-refused-capacities : own.Tie.Need-returns-4
+returns-refused-capacities c =
+    let at-capacities : own.Tie.After-capacities = search in
+    let at-facilities : own.Tie.After-facilities = search in
+    let at-clear : own.Tie.After-clear = search in
+    let at-empty : own.Tie.After-empty = search in
+    let at-storages : own.Tie.After-storages = search in
+    let at-number3 : own.Tie.After-number3 = search in
+    let at-facility-count : own.Tie.After-facility-count = search in
+    let at-number2 : own.Tie.After-number2 = search in
+    let at-edition : own.Tie.After-edition = search in
+    let at-number : own.Tie.After-number = search in (
+      servers-stop _ _ (at-empty .empty .result) (at-number .number .ensures .0) (at-edition .edition .given .1)
+          (at-number2 .number2 .ensures .0) (at-facility-count .facility-count .given .1)
+          (at-number3 .number3 .ensures .0) (at-storages .storages .given .1) (at-clear .clear .ensures)
+          (at-facilities .facilities .ensures) (at-capacities .capacities .ensures) (c .before .n4 .given .1),
       λ h q e. absurd (no-header e),
     )
 
-returns-5 : own.Tie.Need-returns-5
-returns-5 c =
-    let d = c .before .before .before .before .before in
-    let b = d .before .before .before .before in
-    let n = b .before .before .before .before .number3 .ensures .1 _ _ (b .before .before .storages .given .1) in
-    let z = b .empty .ensures .0 in (
-      servers-kept _ _ (b .empty .result) (b .before .before .before .before .before .before .before .before .before .before .before .before .number .ensures .0) (b .before .before .before .before .before .before .before .before .before .before .edition .given .1) (b .before .before .before .before .before .before .before .before .number2 .ensures .0) (b .before .before .before .before .before .before .facility-count .given .1)
-          (b .before .before .before .before .number3 .ensures .0) (b .before .before .storages .given .1) (d .before .before .clear .ensures) (d .facilities .ensures) (c .before .before .before .capacities .ensures) (c .before .q .given .1)
+returns-done : own.Tie.Need-returns-5
+returns-done c =
+    let at-capacities : own.Tie.After-capacities = search in
+    let at-facilities : own.Tie.After-facilities = search in
+    let at-clear : own.Tie.After-clear = search in
+    let at-empty : own.Tie.After-empty = search in
+    let at-storages : own.Tie.After-storages = search in
+    let at-number3 : own.Tie.After-number3 = search in
+    let at-facility-count : own.Tie.After-facility-count = search in
+    let at-number2 : own.Tie.After-number2 = search in
+    let at-edition : own.Tie.After-edition = search in
+    let at-number : own.Tie.After-number = search in
+    let n = at-number3 .number3 .ensures .1 _ _ (at-storages .storages .given .1) in
+    let z = at-empty .empty .ensures .0 in (
+      servers-kept _ _ (at-empty .empty .result) (at-number .number .ensures .0) (at-edition .edition .given .1)
+          (at-number2 .number2 .ensures .0) (at-facility-count .facility-count .given .1)
+          (at-number3 .number3 .ensures .0) (at-storages .storages .given .1) (at-clear .clear .ensures)
+          (at-facilities .facilities .ensures) (at-capacities .capacities .ensures) (c .before .q .given .1)
           (z .2, z .3, z .4, z .5, z .6),
       λ h q e. same-header Within
-          (record { facilities = (b .before .before .before .before .before .before .before .before .number2 .ensures .1 _ _ (b .before .before .before .before .before .before .facility-count .given .1)) .1; storages = n .1; queues = omega arith; values = omega arith; lists = omega arith; blocks = omega arith }) e,
+          (record {
+            facilities = (at-number2 .number2 .ensures .1 _ _ (at-facility-count .facility-count .given .1)) .1;
+            storages = n .1;
+            queues = omega arith;
+            values = omega arith;
+            lists = omega arith;
+            blocks = omega arith;
+          }) e,
     )
 
 pub servers-spec : {M : Type 1} → own.Statement.statement M
@@ -78,12 +139,12 @@ servers-spec =
     (search needs)
     cast-clear
     (search needs)
-    (λ c κs. let b = c .before .before .before .before .before .before .before .before .before in (b .before .before .number2 .ensures .1 _ _ (b .facility-count .given .1)) .1)
+    facilities-requires
     capacities-requires
     (search needs)
     (search needs)
-    (λ c. unfold serversField in (takes-stop (Stage _ _ _ _ _ _) _ _ (c .before .before .before .number .ensures .0) (c .before .n .given .1) (record { held = refl }), λ h q e. absurd (no-header e)))
-    returns-2
-    returns-3
-    returns-4
-    returns-5)
+    returns-refused-number
+    returns-refused-number-2
+    returns-refused-number-3
+    returns-refused-capacities
+    returns-done)

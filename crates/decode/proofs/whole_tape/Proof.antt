@@ -4,6 +4,28 @@ use our.Lists.{tape-stop, tape-long, tape-kept}
 use our.whole_tape as f
 use Rattle.machine.specs.All.{needs}
 
+returns-refused : f.Tie.Need-returns
+returns-refused c =
+    let at-end : f.Tie.After-end = search in
+    let at-sample-lists : f.Tie.After-sample-lists = search in
+    let at-clear-lists : f.Tie.After-clear-lists = search in
+    tape-long _ _ (rw (at-clear-lists .clear-lists .ensures) at (at-sample-lists .sample-lists .ensures)) (at-end .end .given .1)
+    (c .if1 .taken)
+
+returns-end-is-not-len : f.Tie.Need-returns-2
+returns-end-is-not-len c =
+    let at-sample-lists : f.Tie.After-sample-lists = search in
+    let at-clear-lists : f.Tie.After-clear-lists = search in
+    tape-stop _ _ (rw (at-clear-lists .clear-lists .ensures) at (at-sample-lists .sample-lists .ensures)) (c .before .n .given .1)
+
+returns-at : f.Tie.Need-returns-3
+returns-at c =
+    let at-end : f.Tie.After-end = search in
+    let at-sample-lists : f.Tie.After-sample-lists = search in
+    let at-clear-lists : f.Tie.After-clear-lists = search in
+    tape-kept _ _ (rw (at-clear-lists .clear-lists .ensures) at (at-sample-lists .sample-lists .ensures)) (at-end .end .given .1)
+    (c .if1 .left)
+
 pub whole-tape-spec : {M : Type 1} → f.Statement.statement M
 whole-tape-spec =
     f.Tie.close
@@ -12,6 +34,6 @@ whole-tape-spec =
     (search needs)
     (search needs)
     (search needs)
-    (λ c. let b = c .before .before in tape-long _ _ (rw (b .before .before .before .before .clear-lists .ensures) at (b .before .before .sample-lists .ensures)) (b .end .given .1) (c .if1 .taken))
-    (λ c. tape-stop _ _ (rw (c .before .before .before .before .before .clear-lists .ensures) at (c .before .before .before .sample-lists .ensures)) (c .before .n .given .1))
-    (λ c. let b = c .before .before in tape-kept _ _ (rw (b .before .before .before .before .clear-lists .ensures) at (b .before .before .sample-lists .ensures)) (b .end .given .1) (c .if1 .left)))
+    returns-refused
+    returns-end-is-not-len
+    returns-at)
