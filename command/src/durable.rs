@@ -149,6 +149,11 @@ impl New {
         (here.dev(), here.ino()) == (own.dev(), own.ino())
     }
 
+    /// Its first name, where that is still there.
+    fn left(&self) -> Option<PathBuf> {
+        there(&self.path).then(|| self.path.clone())
+    }
+
     /// Takes it away again.
     fn abandon(self, what: String) -> Trouble {
         let removed = remove(&self.path);
@@ -190,7 +195,7 @@ pub fn write_folder(
     };
     let old = match brought {
         Ok(old) => old,
-        Err(e) if new.is_at(place) => return Err(in_place(e.to_string(), None)),
+        Err(e) if new.is_at(place) => return Err(in_place(e.to_string(), new.left())),
         Err(e) => return Err(new.abandon(e.to_string())),
     };
     sync_folder(parent, &mut notes)
@@ -285,7 +290,7 @@ pub fn write_file(place: &Path, bytes: &[u8], replace: bool, sync: bool) -> Resu
     };
     match brought {
         Ok(()) => {}
-        Err(e) if new.is_at(place) => return Err(in_place(e.to_string(), None)),
+        Err(e) if new.is_at(place) => return Err(in_place(e.to_string(), new.left())),
         Err(e) => return Err(new.abandon(e.to_string())),
     }
     match sync {

@@ -77,10 +77,10 @@ fn any_change_of_any_file_is_noticed() {
         assert_eq!(all.len(), 4 + 7);
         for path in &all {
             let bytes = fs::read(path).unwrap();
-            // of the page of formats, which is long and not looked into, some
-            let step = if bytes.len() > 10_000 { 997 } else { 1 };
-            for at in (0..bytes.len()).step_by(step) {
-                for mask in [1, 128] {
+            // the page of formats is long and only summed: each of its bytes once is enough
+            let long = bytes.len() > 10_000;
+            for at in (0..bytes.len()).step_by(if long && columns { 997 } else { 1 }) {
+                for mask in if long { &[1][..] } else { &[1, 128] } {
                     let mut other = bytes.clone();
                     other[at] ^= mask;
                     write(path, &other);
