@@ -143,7 +143,9 @@ fn put_server(
 ) -> usize
     requires { ⌜ blocks ≤ maxBlocks ⌝ }
     requires { ⌜ v < serverCount ⌝ }
-    ensures { λ r. ⌜ written r (now (report .exit)) ≡ putAll (serverRow (now (tables .entry)) (now (tally .entry)) clock blocks v) (written at (now (report .entry))) ⌝ }
+    ensures { λ r. ⌜
+        written r (now (report .exit)) ≡ putAll (serverRow (now (tables .entry)) (now (tally .entry)) clock blocks v)
+        (written at (now (report .entry))) ⌝ }
 {
     let entered = write_number(
         report,
@@ -171,7 +173,9 @@ pub fn put_servers(
 ) -> usize
     requires { ⌜ blocks ≤ maxBlocks ⌝ }
     requires { ⌜ servers ≤ serverCount ⌝ }
-    ensures { λ r. ⌜ written r (now (report .exit)) ≡ putAll (rowsTo servers (serverRow (now (tables .entry)) (now (tally .entry)) clock blocks)) (written at (now (report .entry))) ⌝ }
+    ensures { λ r. ⌜
+        written r (now (report .exit)) ≡ putAll (rowsTo servers (serverRow (now (tables .entry)) (now (tally .entry)) clock blocks))
+        (written at (now (report .entry))) ⌝ }
 {
     let mut next = at;
     let mut v = 0;
@@ -193,7 +197,9 @@ fn put_queue(
 ) -> usize
     requires { ⌜ blocks ≤ maxBlocks ⌝ }
     requires { ⌜ q < maxQueues ⌝ }
-    ensures { λ r. ⌜ written r (now (report .exit)) ≡ putAll (queueRow (now (tables .entry)) (now (tally .entry)) clock blocks q) (written at (now (report .entry))) ⌝ }
+    ensures { λ r. ⌜
+        written r (now (report .exit)) ≡ putAll (queueRow (now (tables .entry)) (now (tally .entry)) clock blocks q)
+        (written at (now (report .entry))) ⌝ }
 {
     let arrived = write_number(
         report,
@@ -215,7 +221,9 @@ pub fn put_queues(
 ) -> usize
     requires { ⌜ blocks ≤ maxBlocks ⌝ }
     requires { ⌜ queues ≤ maxQueues ⌝ }
-    ensures { λ r. ⌜ written r (now (report .exit)) ≡ putAll (rowsTo queues (queueRow (now (tables .entry)) (now (tally .entry)) clock blocks)) (written at (now (report .entry))) ⌝ }
+    ensures { λ r. ⌜
+        written r (now (report .exit)) ≡ putAll (rowsTo queues (queueRow (now (tables .entry)) (now (tally .entry)) clock blocks))
+        (written at (now (report .entry))) ⌝ }
 {
     let mut next = at;
     let mut q = 0;

@@ -42,7 +42,9 @@ pub fn write_report(
     report: &mut [u8],
 ) -> usize
     requires { ⌜ Room (now work) ⌝ }
-    ensures { λ r. ⌜ written r (now (report .exit)) ≡ putAll (rowNumbers model (now (tables .entry)) (now (tally .entry)) (now (work .entry)) x) (written 0 (now (report .entry))) ⌝ }
+    ensures { λ r. ⌜
+        written r (now (report .exit)) ≡ putAll (rowNumbers model (now (tables .entry)) (now (tally .entry)) (now (work .entry)) x)
+        (written 0 (now (report .entry))) ⌝ }
 {
     let blocks = at_most(model.blocks, Model::MAX_BLOCKS);
     let servers = at_most(model.facilities, Model::MAX_FACILITIES)

@@ -6,8 +6,11 @@ use Rattle.report.proofs.put_scalars as f
 returns : f.Tie.Need-returns
 unfolding putAll
 returns c =
-    let b = c .before .before .before .before .before .before .before in
-    c .before .before .write-number3 .ensures ∙ ap (put _) (b .write-number2 .ensures ∙ ap (put _) (b .before .before .before .before .before .write-number .ensures))
+    let at-write-number3 : f.Tie.After-write-number3 = search in
+    let at-write-number2 : f.Tie.After-write-number2 = search in
+    let at-write-number : f.Tie.After-write-number = search in
+    at-write-number3 .write-number3 .ensures
+    ∙ ap (put _) (at-write-number2 .write-number2 .ensures ∙ ap (put _) (at-write-number .write-number .ensures))
 
 pub put-scalars-spec : {M : Type 1} → f.Statement.statement M
 put-scalars-spec =

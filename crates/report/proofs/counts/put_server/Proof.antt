@@ -6,14 +6,26 @@ use Rattle.report.proofs.counts.put_server as f
 returns : f.Tie.Need-returns
 unfolding serverRow putAll
 returns c =
-    let b = c .before .before .before .before .before .before .before .before .before .before .before .before in
-    c .before .before .write-number5 .ensures
-    ∙ ap₂ put (c .before .before .before .longest-ql .ensures)
-    (c .before .before .before .before .before .before .before .write-number4 .ensures
-    ∙ ap₂ put (c .before .before .before .before .before .before .before .before .wait-ticks .ensures)
-    (b .write-number3 .ensures
-    ∙ ap₂ put (b .before .total2 .ensures)
-    (b .before .before .before .before .before .write-number2 .ensures ∙ ap₂ put (b .before .before .before .before .before .before .unit-ticks .ensures) (b .before .before .before .before .before .before .before .before .before .before .write-number .ensures ∙ ap₂ put (b .before .before .before .before .before .before .before .before .before .before .before .total .ensures) refl))))
+    let at-write-number5 : f.Tie.After-write-number5 = search in
+    let at-longest-ql : f.Tie.After-longest-ql = search in
+    let at-write-number4 : f.Tie.After-write-number4 = search in
+    let at-wait-ticks : f.Tie.After-wait-ticks = search in
+    let at-write-number3 : f.Tie.After-write-number3 = search in
+    let at-total2 : f.Tie.After-total2 = search in
+    let at-write-number2 : f.Tie.After-write-number2 = search in
+    let at-unit-ticks : f.Tie.After-unit-ticks = search in
+    let at-write-number : f.Tie.After-write-number = search in
+    let at-total : f.Tie.After-total = search in
+    at-write-number5 .write-number5 .ensures
+    ∙ ap₂ put (at-longest-ql .longest-ql .ensures)
+    (at-write-number4 .write-number4 .ensures
+    ∙ ap₂ put (at-wait-ticks .wait-ticks .ensures)
+    (at-write-number3 .write-number3 .ensures
+    ∙ ap₂ put (at-total2 .total2 .ensures)
+    (at-write-number2 .write-number2 .ensures ∙ ap₂ put (at-unit-ticks .unit-ticks .ensures)
+    (at-write-number .write-number .ensures ∙ ap₂ put (at-total .total .ensures) refl))))
 
 pub put-server-spec : {M : Type 1} → f.Statement.statement M
-put-server-spec = f.Tie.close (f.Tie.spec (search needs) (search needs) (search needs) (search needs) (search needs) (search needs) (search needs) (search needs) (search needs) (search needs) (search needs) returns)
+put-server-spec =
+    f.Tie.close (f.Tie.spec (search needs) (search needs) (search needs) (search needs) (search needs) (search needs) (search needs)
+    (search needs) (search needs) (search needs) (search needs) returns)
