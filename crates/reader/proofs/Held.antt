@@ -63,22 +63,27 @@ module _ {M : Type 1} (𝓤 : URA M) (H : Heap 𝓤) (A : Atoms 𝓤) (W : Given
   opened =
       qed W (‵ OwnIn ∷ []) ∵
       use1 W (‵ OwnIn ⊛ ‵ OwnIn) (LL.copy (T.the-type α) (T′.the-copy α) 𝓤 H A W .twice d (T′.lowered d ∷ [])) $ split ! $
-      use1 W (given (T′.lowered d ∷ [] ≡ T′.lowered d ∷ []) (‵ (all-own (T.the-type α .parts) (T′.the-laws α) fields))) (own-open 𝓤 H A W (T.the-type α) (T′.the-laws α) fields (T′.lowered d)) $ learn ! (λ _.
-      use1 W (‵ (ownAt (T.the-type α .parts) (T′.the-laws α) 0 (d .bytes)) ⊛ ‵ (rest (T.the-type α .parts) (T′.the-laws α) 0 fields)) (own-out 𝓤 H A W (T.the-type α .parts) (T′.the-laws α) 0 fields) $ split ! $
+      use1 W (given (T′.lowered d ∷ [] ≡ T′.lowered d ∷ []) (‵ (all-own (T.the-type α .parts) (T′.the-laws α) fields)))
+      (own-open 𝓤 H A W (T.the-type α) (T′.the-laws α) fields (T′.lowered d)) $ learn ! (λ _.
+      use1 W (‵ (ownAt (T.the-type α .parts) (T′.the-laws α) 0 (d .bytes)) ⊛ ‵ (rest (T.the-type α .parts) (T′.the-laws α) 0 fields))
+      (own-out 𝓤 H A W (T.the-type α .parts) (T′.the-laws α) 0 fields) $ split ! $
       move ! (1 ∷ []) $ drop ! $ frame ! $ done !)
 
   -- to a function of the slice
-  pub lends-slice : ent 𝓤 (sem 𝓤 H A OwnIn) (sep 𝓤 (sem 𝓤 H A (owns (ShrSlice (named 0) (α .lft) u8 ∷ []) (d .bytes, tt) (slice d ∷ [], tt))) (sem 𝓤 H A OwnIn))
+  pub lends-slice : ent 𝓤 (sem 𝓤 H A OwnIn)
+      (sep 𝓤 (sem 𝓤 H A (owns (ShrSlice (named 0) (α .lft) u8 ∷ []) (d .bytes, tt) (slice d ∷ [], tt))) (sem 𝓤 H A OwnIn))
   lends-slice =
       qed W (‵ OwnIn ∷ []) ∵ use1 W (‵ Bytes ⊛ ‵ OwnIn) opened $ split ! $
       nothing ! $ move ! (1 ∷ 0 ∷ []) $ fjoin ! $ frame ! $ done !
 
   -- to a function of the slice and the position
   pub lends-both : d .at < 2 ^ 64 → ent 𝓤 (sem 𝓤 H A OwnIn)
-      (sep 𝓤 (sem 𝓤 H A (owns (ShrSlice (named 0) (α .lft) u8 ∷ usize ∷ []) (d .bytes, (d .at, tt)) (slice d ∷ [], (place d ∷ [], tt)))) (sem 𝓤 H A OwnIn))
+      (sep 𝓤 (sem 𝓤 H A (owns (ShrSlice (named 0) (α .lft) u8 ∷ usize ∷ []) (d .bytes, (d .at, tt)) (slice d ∷ [], (place d ∷ [], tt))))
+      (sem 𝓤 H A OwnIn))
   lends-both fits =
       qed W (‵ OwnIn ∷ []) ∵ use1 W (‵ Bytes ⊛ ‵ OwnIn) opened $ split ! $
-      nothing ! $ owned ! usize (Is usize) (uint-makes 𝓤 H A W w64) (d .at) _ (refl, fits) $ fjoin ! $ move ! (1 ∷ 0 ∷ []) $ fjoin ! $ frame ! $ done !
+      nothing ! $ owned ! usize (Is usize) (uint-makes 𝓤 H A W w64) (d .at) _ (refl, fits) $ fjoin ! $ move !
+      (1 ∷ 0 ∷ []) $ fjoin ! $ frame ! $ done !
 
 -- the same of a reader that is a function's only parameter
 module _ {M : Type 1} (𝓤 : URA M) (H : Heap 𝓤) (A : Atoms 𝓤) (W : Given 𝓤 H A) (κ : Lft) (d : Reader) where
@@ -88,9 +93,11 @@ module _ {M : Type 1} (𝓤 : URA M) (H : Heap 𝓤) (A : Atoms 𝓤) (W : Given
   abbrev Passed : Fml
   Passed = owns (ReaderAt (κ, tt) ∷ []) (d, tt) (T′.lowered d ∷ [], tt)
 
-  pub passes-slice : ent 𝓤 (sem 𝓤 H A Passed) (sep 𝓤 (sem 𝓤 H A (owns (ShrSlice (named 0) κ u8 ∷ []) (d .bytes, tt) (slice d ∷ [], tt))) (sem 𝓤 H A (Own κ d)))
+  pub passes-slice : ent 𝓤 (sem 𝓤 H A Passed)
+      (sep 𝓤 (sem 𝓤 H A (owns (ShrSlice (named 0) κ u8 ∷ []) (d .bytes, tt) (slice d ∷ [], tt))) (sem 𝓤 H A (Own κ d)))
   passes-slice = qed W (‵ Passed ∷ []) ∵ fsplit ! $ move ! (1 ∷ []) $ drop ! $ by ! (lends-slice 𝓤 H A W α d)
 
   pub passes-both : d .at < 2 ^ 64 → ent 𝓤 (sem 𝓤 H A Passed)
-      (sep 𝓤 (sem 𝓤 H A (owns (ShrSlice (named 0) κ u8 ∷ usize ∷ []) (d .bytes, (d .at, tt)) (slice d ∷ [], (place d ∷ [], tt)))) (sem 𝓤 H A (Own κ d)))
+      (sep 𝓤 (sem 𝓤 H A (owns (ShrSlice (named 0) κ u8 ∷ usize ∷ []) (d .bytes, (d .at, tt)) (slice d ∷ [], (place d ∷ [], tt))))
+      (sem 𝓤 H A (Own κ d)))
   passes-both fits = qed W (‵ Passed ∷ []) ∵ fsplit ! $ move ! (1 ∷ []) $ drop ! $ by ! (lends-both 𝓤 H A W α d fits)

@@ -32,7 +32,8 @@ pub fn new<'a>(bytes: &'a [u8]) -> Reader<'a>
 
 // The record at the reader's position, or the number of the refusal, or "no more"; the reader keeps the position behind it.
 pub fn next<'s, 'a>(r: &'s mut Reader<'a>) -> Reading
-    ensures { λ x. ⌜ (readingOf x ≡ readRecord inForce (now (now (r .entry) .bytes)) (now (r .entry) .at)) × (now (r .exit) ≡ moved (now (r .entry))) ⌝ }
+    ensures { λ x. ⌜
+        (readingOf x ≡ readRecord inForce (now (now (r .entry) .bytes)) (now (r .entry) .at)) × (now (r .exit) ≡ moved (now (r .entry))) ⌝ }
 {
     let at = r.at;
     let x = read_record(r.bytes, at);

@@ -52,7 +52,8 @@ module _ {M : Type 1} (𝓤 : URA M) (H : Heap 𝓤) (A : Atoms 𝓤) (mem : Mem
   abbrev CountLow : Contract 𝓤
   CountLow = tripleOf 𝓤 H A count-low.signature (count-low.spec 𝓤 H A mem run)
 
-module _ {M : Type 1} (𝓤 : URA M) (H : Heap 𝓤) (A : Atoms 𝓤) (W : Given 𝓤 H A) (mem : Memory → SProp 𝓤) (run : Routine → Fun 𝓤) (κ : Lft) (q : Share) (d : Reader) where
+module _ {M : Type 1} (𝓤 : URA M) (H : Heap 𝓤) (A : Atoms 𝓤) (W : Given 𝓤 H A) (mem : Memory → SProp 𝓤) (run : Routine → Fun 𝓤) (κ : Lft)
+    (q : Share) (d : Reader) where
   abbrev Post : Val → SProp 𝓤
   Post = walkOf 𝓤 H A count.ended stayed (count.clauses 𝓤 H A mem run) .post (((κ, tt), (q, tt), tt, (d, tt), (T′.lowered d ∷ [], tt)), tt)
 
@@ -66,11 +67,15 @@ module _ {M : Type 1} (𝓤 : URA M) (H : Heap 𝓤) (A : Atoms 𝓤) (W : Given
   abbrev to : CountLow 𝓤 H A mem run .Ghost
   to = (((κ, tt), (q, tt), tt, (d .bytes, tt), passed), tt)
 
-  goes : ent 𝓤 (onEntry 𝓤 H A count.signature (κ, tt) (q, tt) (d, tt) (T′.lowered d ∷ [], tt)) (sep 𝓤 (CountLow 𝓤 H A mem run .pre to) (sem 𝓤 H A (Own κ d)))
+  goes : ent 𝓤 (onEntry 𝓤 H A count.signature (κ, tt) (q, tt) (d, tt) (T′.lowered d ∷ [], tt))
+      (sep 𝓤 (CountLow 𝓤 H A mem run .pre to) (sem 𝓤 H A (Own κ d)))
   goes =
       qed W ((‵ (flft κ q) ⊛ ‵ ftrue) ∷ ‵ (owns (ReaderAt (κ, tt) ∷ []) (d, tt) (T′.lowered d ∷ [], tt)) ∷ []) ∵
-      move ! (1 ∷ []) $ use1 W (‵ (owns (ShrSlice (named 0) κ u8 ∷ []) (d .bytes, tt) passed) ⊛ ‵ (Own κ d)) (passes-slice 𝓤 H A W κ d) $ split ! $
-      move ! (2 ∷ 0 ∷ []) $ use2 W (raw (CountLow 𝓤 H A mem run .pre to)) (qed W ((‵ (flft κ q) ⊛ ‵ ftrue) ∷ ‵ (owns (ShrSlice (named 0) κ u8 ∷ []) (d .bytes, tt) passed) ∷ []) ∵ join ! $ frame ! $ done !) $ frame ! $ done !
+      move ! (1 ∷ []) $ use1 W (‵ (owns (ShrSlice (named 0) κ u8 ∷ []) (d .bytes, tt) passed) ⊛ ‵ (Own κ d))
+      (passes-slice 𝓤 H A W κ d) $ split ! $
+      move ! (2 ∷ 0 ∷ []) $ use2 W (raw (CountLow 𝓤 H A mem run .pre to))
+      (qed W ((‵ (flft κ q) ⊛ ‵ ftrue) ∷ ‵ (owns (ShrSlice (named 0) κ u8 ∷ []) (d .bytes, tt) passed) ∷ [])
+      ∵ join ! $ frame ! $ done !) $ frame ! $ done !
 
   -- what the callee ensures of its answer
   said : (n : ℕ) → ent 𝓤 (ensured 𝓤 H A count-low.ended (count-low.clauses 𝓤 H A mem run) (κ, tt) (d .bytes, tt) tt n) (fact 𝓤 (n ≡ low))
@@ -79,18 +84,27 @@ module _ {M : Type 1} (𝓤 : URA M) (H : Heap 𝓤) (A : Atoms 𝓤) (W : Given
   exits : (n : ℕ) (u : Val) → n ≡ low → ent 𝓤 (⋆ 𝓤 H A (‵ (u64 .own n (u ∷ [])) ∷ (‵ (flft κ q) ⊛ ‵ ftrue) ∷ ‵ (Own κ d) ∷ [])) (Post u)
   exits n u e =
       qed W (‵ (u64 .own n (u ∷ [])) ∷ (‵ (flft κ q) ⊛ ‵ ftrue) ∷ ‵ (Own κ d) ∷ []) ∵
-      suffices ! _ (ends-at 𝓤 H A count.ended stayed (count.clauses 𝓤 H A mem run) W (((κ, tt), (q, tt), tt, (d, tt), (T′.lowered d ∷ [], tt)), tt) u n (tt, tt) (tt, tt)) $ says ! e $
+      suffices ! _
+      (ends-at 𝓤 H A count.ended stayed (count.clauses 𝓤 H A mem run) W
+      (((κ, tt), (q, tt), tt, (d, tt), (T′.lowered d ∷ [], tt)), tt) u n (tt, tt) (tt, tt)) $ says ! e $
       move ! (1 ∷ []) $ frame ! $ nothing ! $ move ! (2 ∷ 0 ∷ []) $ fjoin ! $ frame ! $ done !
 
   module _ (C : Calls 𝓤 H) (Λ : Loops 𝓤 H) (fm : FmC 𝓤 H (W .laws) C) (known : Triple 𝓤 (C #trace·count-low) (CountLow 𝓤 H A mem run)) where
-    walk : Holds (hasTy (T′.mir (named 0)) (T′.lowered d)) × WT (T′.lowered d) → ent 𝓤 (onEntry 𝓤 H A count.signature (κ, tt) (q, tt) (d, tt) (T′.lowered d ∷ [], tt)) (WpFn 𝓤 H C Λ code.function (T′.lowered d ∷ []) Post)
+    walk : Holds (hasTy (T′.mir (named 0)) (T′.lowered d)) × WT (T′.lowered d)
+        → ent 𝓤 (onEntry 𝓤 H A count.signature (κ, tt) (q, tt) (d, tt) (T′.lowered d ∷ [], tt))
+        (WpFn 𝓤 H C Λ code.function (T′.lowered d ∷ []) Post)
     walk wt =
-        qed W (raw (onEntry 𝓤 H A count.signature (κ, tt) (q, tt) (d, tt) (T′.lowered d ∷ [], tt)) ∷ []) ∵ enter ! C Λ code.function (T′.lowered d ∷ []) _ $
+        qed W (raw (onEntry 𝓤 H A count.signature (κ, tt) (q, tt) (d, tt) (T′.lowered d ∷ [], tt)) ∷ []) ∵ enter ! C Λ code.function
+        (T′.lowered d ∷ []) _ $
         alloc1 ! (λ l₀. alloc1 ! (λ l₁. alloc1 ! (λ l₂. alloc0 ! $ params1 ! $ pass1 ! (init ! 2 refl wt) $ pass0 ! $
-        assigns ! (of-opd ! (load ! (from ! (fld ! refl (stop !))) (look-in ! 2 (sub ! 0 refl (whole !))))) (from ! (stop !)) (init ! 0 refl (tt, wt .1 .0)) $
+        assigns ! (of-opd ! (load ! (from ! (fld ! refl (stop !))) (look-in ! 2 (sub ! 0 refl (whole !))))) (from ! (stop !))
+        (init ! 0 refl (tt, wt .1 .0)) $
         move ! (6 ∷ []) $ use1 W (raw (CountLow 𝓤 H A mem run .pre to) ⊛ ‵ (Own κ d)) goes $ split ! $
         calls-at ! fm (CountLow 𝓤 H A mem run) known to (and-then ! (load ! (from ! (stop !)) (look ! 2 refl)) (no-more !)) (λ u.
-        use1 W (later (some (λ (n : ℕ). ((‵ (flft κ q) ⊛ ‵ ftrue) ⊛ ‵ (u64 .own n (u ∷ []))) ⊛ raw (ensured 𝓤 H A count-low.ended (count-low.clauses 𝓤 H A mem run) (κ, tt) (d .bytes, tt) tt n)))) (id⊢ 𝓤 _) $ await ! tt $ pick ! (λ n.
+        use1 W (later
+        (some (λ (n : ℕ). ((‵ (flft κ q) ⊛ ‵ ftrue) ⊛ ‵ (u64 .own n (u ∷ []))) ⊛ raw
+        (ensured 𝓤 H A count-low.ended (count-low.clauses 𝓤 H A mem run) (κ, tt) (d .bytes, tt) tt n))))
+        (id⊢ 𝓤 _) $ await ! tt $ pick ! (λ n.
         split ! $ move ! (1 ∷ []) $ use1 W (raw (fact 𝓤 (n ≡ low))) (said n) $ heard ! (n ≡ low) (λ e. split ! $ move ! (1 ∷ []) $
         -- [the number; the lifetime; the reader; _2; its room; _1; ..; room for _0; ..]
         peeks ! u64 (Is u64) (shows 𝓤 H A u64) n (u ∷ []) (λ is.
@@ -101,13 +115,20 @@ module _ {M : Type 1} (𝓤 : URA M) (H : Heap 𝓤) (A : Atoms 𝓤) (W : Given
 module _ {M : Type 1} (𝓤 : URA M) (H : Heap 𝓤) (A : Atoms 𝓤) (W : Given 𝓤 H A) (mem : Memory → SProp 𝓤) (run : Routine → Fun 𝓤) where
   count-walks : (C : Calls 𝓤 H) (Λ : Loops 𝓤 H) → FmC 𝓤 H (W .laws) C → Triple 𝓤 (C #trace·count-low) (CountLow 𝓤 H A mem run)
       → Walks 𝓤 H A count.ended stayed (WpFn 𝓤 H C Λ code.function) (count.clauses 𝓤 H A mem run)
-  count-walks C Λ fm known = walked 𝓤 H A count.ended stayed (count.clauses 𝓤 H A mem run) (WpFn 𝓤 H C Λ code.function) (λ κs. (LL.vals (Described κs) (Lawful κs), tt)) (λ κs. (LL.tells (Described κs) (Lawful κs), tt))
-      (λ κs qs bounds a g are. via 𝓤 _ (fst∗ 𝓤 _ (emp 𝓤)) (walk 𝓤 H A W mem run (κs .0) (qs .0) (a .0) C Λ fm known (LL.lawful (Described κs) (Lawful κs) 𝓤 H A W .typed (a .0) _ (are .0) .0)))
+  count-walks C Λ fm known =
+      walked 𝓤 H A count.ended stayed (count.clauses 𝓤 H A mem run) (WpFn 𝓤 H C Λ code.function)
+      (λ κs. (LL.vals (Described κs) (Lawful κs), tt)) (λ κs. (LL.tells (Described κs) (Lawful κs), tt))
+      (λ κs qs bounds a g are. via 𝓤 _ (fst∗ 𝓤 _ (emp 𝓤))
+      (walk 𝓤 H A W mem run (κs .0) (qs .0) (a .0) C Λ fm known
+      (LL.lawful (Described κs) (Lawful κs) 𝓤 H A W .typed (a .0) _ (are .0) .0)))
 
-count-meets : {M : Type 1} (𝓤 : URA M) (H : Heap 𝓤) (A : Atoms 𝓤) (W : Given 𝓤 H A) (mem : Memory → SProp 𝓤) (run : Routine → Fun 𝓤) (𝓣 : Tables 𝓤 H)
+count-meets : {M : Type 1} (𝓤 : URA M) (H : Heap 𝓤) (A : Atoms 𝓤) (W : Given 𝓤 H A) (mem : Memory → SProp 𝓤) (run : Routine → Fun 𝓤)
+    (𝓣 : Tables 𝓤 H)
     → Triple 𝓤 (𝓣 .C #trace·count-low) (CountLow 𝓤 H A mem run)
     → Meets 𝓤 H A count.signature (WpFn 𝓤 H (𝓣 .C) (𝓣 .Λ) code.function) (count.spec 𝓤 H A mem run)
-count-meets 𝓤 H A W mem run 𝓣 known = walk-meets 𝓤 H A count.ended stayed W (goes-none 𝓤 H A W 1 ReaderAt yes (λ κs x f. refl), tt) (count.clauses 𝓤 H A mem run) (WpFn 𝓤 H (𝓣 .C) (𝓣 .Λ) code.function) (WpFn-mono 𝓤 H (W .laws) 𝓣 code.function)
+count-meets 𝓤 H A W mem run 𝓣 known =
+    walk-meets 𝓤 H A count.ended stayed W (goes-none 𝓤 H A W 1 ReaderAt yes (λ κs x f. refl), tt) (count.clauses 𝓤 H A mem run)
+    (WpFn 𝓤 H (𝓣 .C) (𝓣 .Λ) code.function) (WpFn-mono 𝓤 H (W .laws) 𝓣 code.function)
     (count-walks 𝓤 H A W mem run (𝓣 .C) (𝓣 .Λ) (fmOf 𝓤 H (W .laws) 𝓣) known)
 
 pub count-spec : {M : Type 1} → stated.statement M
@@ -116,4 +137,5 @@ count-spec 𝓤 H 𝓜 𝓖 𝓡 =
     entered 𝓤 H (tripleOf 𝓤 H (𝓖 .A) count.signature (count.spec 𝓤 H (𝓖 .A) (𝓜 .mem) (𝓡 .run)))
     (tables 𝓤 H 𝓜 𝓡 code.env .C) (tables 𝓤 H 𝓜 𝓡 code.env .Λ) #reader·count code.function (code.unfolded 𝓤 H 𝓜 𝓡)
     (count-meets 𝓤 H (𝓖 .A) (givenOf 𝓤 H 𝓜 𝓖) (𝓜 .mem) (𝓡 .run) (tablesOf 𝓤 H 𝓜 (tables 𝓤 H 𝓜 𝓡 code.env))
-    (cited 𝓤 H (CountLow 𝓤 H (𝓖 .A) (𝓜 .mem) (𝓡 .run)) 𝓜 𝓡 code.env #trace·count-low count-low-def.routine code.calls-trace·count-low (count-low-thm.met 𝓤 H 𝓜 𝓖 𝓡)))
+    (cited 𝓤 H (CountLow 𝓤 H (𝓖 .A) (𝓜 .mem) (𝓡 .run)) 𝓜 𝓡 code.env #trace·count-low count-low-def.routine code.calls-trace·count-low
+    (count-low-thm.met 𝓤 H 𝓜 𝓖 𝓡)))
