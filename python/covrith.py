@@ -56,9 +56,10 @@ _MOST_LENT = _RECORD_BYTES * 100_000_000
 _TIME_BYTES = 3
 _MOST_TIMES = 65_535
 
-# The most lists of a tape, and the last stream.
+# The most lists of a tape, the last stream, and the longest time.
 _MOST_LISTS = 16
 _LAST_STREAM = 511
+_LONGEST = 10_000_000_000
 
 # What the reader of records answers at or past the end.
 _NO_MORE = 30
@@ -170,8 +171,10 @@ def draw_tape(lists: Sequence[Drawn], tape_number: int = 0) -> bytes:
     drawn = []
     for one in lists:
         alone = () if one.stream is None else _lists(make_tape(first + one.stream, [(one.distribution, one.count)]))
-        factor = whole("times", one.times, 1, 10**10)
+        factor = whole("times", one.times, 1, _LONGEST)
         drawn.append([factor * time for time in (alone[0] if alone else next(together))])
+    if any(time > _LONGEST for times in drawn for time in times):
+        raise ValueError(f"a time of a tape is at most {_LONGEST}: count in larger ticks")
     return tape(drawn)
 
 

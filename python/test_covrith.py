@@ -7,6 +7,8 @@ import pathlib
 import subprocess
 import sys
 import unittest
+from decimal import Decimal
+from fractions import Fraction
 
 import covrith
 from covrith import End, Header, Living, Model, Place, Queue, Record, Refusal, Refused, Report, Server
@@ -21,6 +23,55 @@ RECORDS = [
     (3, 1, 1, 0), (3, 1, 2, 0), (3, 1, 3, 0), (5, 2, 1, 0), (5, 2, 2, 1), (8, 1, 4, 0),
     (8, 1, 5, 0), (8, 2, 2, 0), (8, 2, 3, 0), (12, 2, 4, 0), (12, 2, 5, 0),
 ]  # fmt: skip
+
+
+class Curves(unittest.TestCase):
+    def test_names_draw_once_for_each_time(self):
+        drawn = covrith.make_tape(3, [(covrith.exponential(20), 5)])
+        self.assertEqual(drawn, bytes([5, 3, 0, 11, 6, 7]))
+        self.assertEqual(covrith.uniform(1, 6).points, ((0.0, 1.0), (1.0, 7.0)))
+        self.assertEqual(covrith.discrete({0: 0.75, 1: 0.25}).points, ((0.0, 0.0), (49151 / 65536, 0.0), (0.75, 1.0), (1.0, 1.0)))
+        self.assertEqual(covrith.empirical([3, 2.5, 10]).points, covrith.discrete([(3, 43691 / 65536), (10, 21845 / 65536)]).points)
+        self.assertEqual(covrith.exponential(0.1), covrith.exponential(Decimal("0.1")))
+        self.assertEqual(covrith.exponential(Fraction(1, 4)), covrith.exponential(0.25))
+        for curve in (covrith.erlang(100, 20), covrith.normal(20, 10), covrith.lognormal(2, 6), covrith.weibull(0.5, 9), covrith.triangular(1, 1, 1)):
+            self.assertEqual(len(curve.points), 24)
+            self.assertEqual(covrith.make_tape(0, [(curve, 9)])[0], 9)
+
+    def test_parameters_outside_the_rules(self):
+        for wrong in (
+            lambda: covrith.exponential(0), lambda: covrith.exponential(-1), lambda: covrith.exponential(float("nan")),
+            lambda: covrith.exponential(float("inf")), lambda: covrith.exponential(100_000), lambda: covrith.exponential(10**12),
+            lambda: covrith.normal(20, 11), lambda: covrith.lognormal(20, 61), lambda: covrith.erlang(0, 20), lambda: covrith.erlang(101, 20),
+            lambda: covrith.weibull(0.4, 20), lambda: covrith.triangular(4, 3, 12), lambda: covrith.uniform(6, 1),
+            lambda: covrith.uniform(0, 1_000_000), lambda: covrith.discrete({0: 0.7, 1: 0.2}), lambda: covrith.discrete({}),
+            lambda: covrith.discrete([(1, 0.5), (0, 0.5)]), lambda: covrith.discrete({0: 1, 1: 0}), lambda: covrith.empirical([]),
+            lambda: covrith.empirical([2_000_000]), lambda: covrith.discrete({k: 1 / 16 for k in range(16)}),
+        ):  # fmt: skip
+            with self.assertRaises(ValueError):
+                wrong()
+        for wrong in (lambda: covrith.exponential("20"), lambda: covrith.exponential(True), lambda: covrith.erlang(2.5, 20), lambda: covrith.uniform(1.5, 3)):
+            with self.assertRaises(TypeError):
+                wrong()
+
+    def test_streams_of_lists(self):
+        one, two = covrith.Drawn(covrith.exponential(20), 50, stream=1), covrith.Drawn(covrith.normal(9, 2), 50)
+        both = covrith.draw_tape([one, two], 3)
+        alone = [covrith.make_tape(7, [(one.distribution, 50)]), covrith.make_tape(6, [(two.distribution, 50)])]
+        self.assertEqual(both, b"".join(alone))
+        self.assertEqual(covrith.draw_tape([covrith.Drawn(covrith.Fixed(7), 2, times=60)]), covrith.tape([[420, 420]]))
+        self.assertEqual(covrith.draw_tape([]), b"")
+        for wrong in ([one, one], [covrith.Drawn(covrith.Fixed(7), 1, stream=0)], [covrith.Drawn(covrith.Fixed(7), 1, times=0)], [covrith.Drawn(covrith.Fixed(7), 1, times=2 * 10**9)]):
+            with self.assertRaises(ValueError):
+                covrith.draw_tape(wrong)
+        with self.assertRaises(TypeError):
+            covrith.draw_tape([(covrith.Fixed(7), 1)])
+        with self.assertRaises(Refused) as refused:
+            covrith.draw_tape([one], 256)
+        self.assertEqual(refused.exception.number, 41)
+        with self.assertRaises(Refused) as refused:
+            covrith.draw_tape([two] * 17)
+        self.assertEqual(refused.exception.number, 42)
 
 
 class Runs(unittest.TestCase):

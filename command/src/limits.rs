@@ -24,12 +24,11 @@ pub const MODEL_NUMBER: u64 = 4_294_967_295;
 pub const TAPE_NUMBER: u64 = 34_359_738_367;
 pub const NUMBER_BYTES: usize = 5;
 
-/// Of a distribution: counts, times and means, the parts of one that times and u are multiples of, and points of a curve.
+/// Of a distribution: counts, times and means, the part of one that times are multiples of, and points of a curve.
 pub const DRAWN_TIMES: u64 = 65_535;
 pub const DRAWN_TIME: u64 = 1_000_000;
 pub const DRAWN_MEAN: u64 = 500_000;
 pub const TIME_PARTS: u64 = 64;
-pub const DRAW_PARTS: u64 = 65_536;
 pub const FEWEST_POINTS: u64 = 2;
 pub const MOST_POINTS: u64 = 24;
 
