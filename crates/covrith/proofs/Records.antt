@@ -13,10 +13,12 @@ module _ {x : Reading} {wanted : machine.Reading} (e : readingOf x ≡ wanted) (
   unfolding readAnswer readNumbers
   read-taken r next case = rw (← e, case) (refl, refl)
 
+  -- a refused read leaves the caller's numbers
   pub read-refused : (n : ℕ) → x ≡ Refused n → (n ≡ readAnswer wanted) × (before ≡ readNumbers wanted before)
   unfolding readAnswer readNumbers
   read-refused n case = rw (← e, case) (refl, refl)
 
+  -- 30 at the trace's end
   pub read-no-more : x ≡ NoMore → (30 ≡ readAnswer wanted) × (before ≡ readNumbers wanted before)
   unfolding readAnswer readNumbers
   read-no-more case = rw (← e, case) (refl, refl)

@@ -37,7 +37,9 @@ pub extern "C" fn covrith_run(
     report: &mut [u8],
     outcome: &mut [u64; OUTCOME],
 )
-    ensures { λ _. ⌜ Contract (now (model .entry)) (now (tape .entry)) budget (now (work .entry)) (now (trace .entry)) (now (report .entry)) (results (now (outcome .exit))) (now (work .exit)) (now (trace .exit)) (now (report .exit)) ⌝ }
+    ensures { λ _. ⌜
+        Contract (now (model .entry)) (now (tape .entry)) budget (now (work .entry)) (now (trace .entry)) (now (report .entry))
+        (results (now (outcome .exit))) (now (work .exit)) (now (trace .exit)) (now (report .exit)) ⌝ }
 {
     let r = engine::run(model, tape, budget, work, trace, report);
     *outcome = [
@@ -83,8 +85,11 @@ pub extern "C" fn covrith_write_record(
     count: &mut u64,
 ) -> u32
     ensures { λ r. ⌜ r ≡ writeAnswer (writeRecord inForce (length (now (rest .entry))) (entry clock transaction block outcome)) ⌝ }
-    ensures { λ _. ⌜ now (count .exit) ≡ writeCount (writeRecord inForce (length (now (rest .entry))) (entry clock transaction block outcome)) ⌝ }
-    ensures { λ _. ⌜ now (rest .exit) ≡ after (writeRecord inForce (length (now (rest .entry))) (entry clock transaction block outcome)) (now (rest .entry)) ⌝ }
+    ensures { λ _. ⌜
+        now (count .exit) ≡ writeCount (writeRecord inForce (length (now (rest .entry))) (entry clock transaction block outcome)) ⌝ }
+    ensures { λ _. ⌜
+        now (rest .exit) ≡ after (writeRecord inForce (length (now (rest .entry))) (entry clock transaction block outcome))
+        (now (rest .entry)) ⌝ }
 {
     match trace::write_one(rest, clock, transaction, block, outcome) {
         Written::Bytes(n) => {
@@ -177,8 +182,11 @@ pub extern "C" fn covrith_make_tape(
     used: &mut u64,
 ) -> u32
     ensures { λ r. ⌜ r ≡ tapeAnswer (makeTape stream (now (lists .entry)) (now (numbers .entry)) (length (now (tape .entry)))) ⌝ }
-    ensures { λ _. ⌜ now (used .exit) ≡ tapeCount (makeTape stream (now (lists .entry)) (now (numbers .entry)) (length (now (tape .entry)))) ⌝ }
-    ensures { λ _. ⌜ now (tape .exit) ≡ leaves (makeTape stream (now (lists .entry)) (now (numbers .entry)) (length (now (tape .entry)))) (now (tape .entry)) ⌝ }
+    ensures { λ _. ⌜
+        now (used .exit) ≡ tapeCount (makeTape stream (now (lists .entry)) (now (numbers .entry)) (length (now (tape .entry)))) ⌝ }
+    ensures { λ _. ⌜
+        now (tape .exit) ≡ leaves (makeTape stream (now (lists .entry)) (now (numbers .entry)) (length (now (tape .entry))))
+        (now (tape .entry)) ⌝ }
     ensures { λ _. ⌜ Accepts stream (now (lists .entry)) (now (numbers .entry)) (length (now (tape .entry))) ⌝ }
 {
     match tapes::make(stream, lists, numbers, tape) {
@@ -204,10 +212,22 @@ pub extern "C" fn covrith_join(
     tape: &mut [u8],
     lengths: &mut [u64; LENGTHS],
 ) -> u32
-    ensures { λ r. ⌜ r ≡ joinAnswer (join (now (model1 .entry)) (now (tape1 .entry)) (now (model2 .entry)) (now (tape2 .entry)) (length (now (model .entry))) (length (now (tape .entry)))) ⌝ }
-    ensures { λ _. ⌜ now (lengths .exit) ≡ joinLengths (join (now (model1 .entry)) (now (tape1 .entry)) (now (model2 .entry)) (now (tape2 .entry)) (length (now (model .entry))) (length (now (tape .entry)))) ⌝ }
-    ensures { λ _. ⌜ now (model .exit) ≡ modelLeft (join (now (model1 .entry)) (now (tape1 .entry)) (now (model2 .entry)) (now (tape2 .entry)) (length (now (model .entry))) (length (now (tape .entry)))) (now (model .entry)) ⌝ }
-    ensures { λ _. ⌜ now (tape .exit) ≡ tapeLeft (join (now (model1 .entry)) (now (tape1 .entry)) (now (model2 .entry)) (now (tape2 .entry)) (length (now (model .entry))) (length (now (tape .entry)))) (now (tape .entry)) ⌝ }
+    ensures { λ r. ⌜
+        r ≡ joinAnswer
+        (join (now (model1 .entry)) (now (tape1 .entry)) (now (model2 .entry)) (now (tape2 .entry)) (length (now (model .entry)))
+        (length (now (tape .entry)))) ⌝ }
+    ensures { λ _. ⌜
+        now (lengths .exit) ≡ joinLengths
+        (join (now (model1 .entry)) (now (tape1 .entry)) (now (model2 .entry)) (now (tape2 .entry)) (length (now (model .entry)))
+        (length (now (tape .entry)))) ⌝ }
+    ensures { λ _. ⌜
+        now (model .exit) ≡ modelLeft
+        (join (now (model1 .entry)) (now (tape1 .entry)) (now (model2 .entry)) (now (tape2 .entry)) (length (now (model .entry)))
+        (length (now (tape .entry)))) (now (model .entry)) ⌝ }
+    ensures { λ _. ⌜
+        now (tape .exit) ≡ tapeLeft
+        (join (now (model1 .entry)) (now (tape1 .entry)) (now (model2 .entry)) (now (tape2 .entry)) (length (now (model .entry)))
+        (length (now (tape .entry)))) (now (tape .entry)) ⌝ }
 {
     match join::join(model1, tape1, model2, tape2, model, tape) {
         Joined::Bytes(m, t) => {

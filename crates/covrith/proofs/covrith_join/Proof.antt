@@ -4,16 +4,20 @@ use our.Joins.{joined-bytes, joined-nothing}
 use our.covrith_join as f
 use Rattle.machine.specs.All.{needs}
 
-returns : f.Tie.Need-returns
-returns c =
-    let call = c .before .before .before .before .before .before .before .before .join .ensures in
-    let answer = joined-bytes _ _ (call .answered) _ _ (c .before .before .m .given .1) in
+returns-bytes : f.Tie.Need-returns
+returns-bytes c =
+    let at-m : f.Tie.After-m = search in
+    let at-join : f.Tie.After-join = search in
+    let call = at-join .join .ensures in
+    let answer = joined-bytes _ _ (call .answered) _ _ (at-m .m .given .1) in
     (answer .0, (answer .1, (call .model-left, call .tape-left)))
 
-returns-2 : f.Tie.Need-returns-2
-returns-2 c =
-    let call = c .before .before .before .before .before .before .before .before .join .ensures in
-    let answer = joined-nothing _ _ (call .answered) _ (c .before .before .n .given .1) in
+returns-refused : f.Tie.Need-returns-2
+returns-refused c =
+    let at-n : f.Tie.After-n = search in
+    let at-join : f.Tie.After-join = search in
+    let call = at-join .join .ensures in
+    let answer = joined-nothing _ _ (call .answered) _ (at-n .n .given .1) in
     (answer .0, (answer .1, (call .model-left, call .tape-left)))
 
 pub covrith-join-spec : {M : Type 1} → f.Statement.statement M
@@ -25,7 +29,7 @@ covrith-join-spec =
     (search needs)
     (search needs)
     (search needs)
-    returns
+    returns-bytes
     (search needs)
     (search needs)
-    returns-2)
+    returns-refused)
