@@ -1,6 +1,6 @@
 -- The writer, pure: the length of a record, the ranges as facts, its four numbers stored one after the other, and the rest
 -- that `writeRecord` leaves.
-use Rattle.machine.specs.All.{clash, ℕ, _+_, _≤_, _<_, zero-add, arith, true, false, List, [], _∷_, _++_, append-assoc, _≡_, refl, ap, _∙_, lit≤, length, take, length-append, sets, length-sets, sets-eq, take-append-seam, le-leb, lt-leb, leb-true, inForce, fiveGroups, maxClock, maxTransaction, maxBlocks, recordRoom, numberBytes, Record, recordBytes, traceBytes, inRanges, written, rejected, writeRecord}
+use Rattle.machine.specs.All.{clash, ℕ, _+_, _≤_, _<_, zero-add, arith, true, false, List, [], _∷_, _++_, append-assoc, _≡_, refl, ap, _∙_, lit≤, length, take, length-append, sets, length-sets, sets-eq, take-append-seam, le-leb, lt-leb, leb-true, inForce, fiveGroups, maxClock, maxTransaction, maxBlocks, recordRoom, numberBytes, Record, recordBytes, traceBytes, inRanges, written, rejected, writeRecord, _&&_, sym, ap₂, leb, drop}
 use Rattle.machine.proofs.runs.RecordRoom.{record-room as room}
 use Rattle.codec.proofs.{Fields.both-true, Fields.between, Numbers.numberBytes-positive, Stores.sets-append, Writing.put-room}
 use Rattle.codec.specs.Writing.{Written as Placed, written as written-to, put}
@@ -21,7 +21,7 @@ pub traceBytes-append : (l m : List Record) → traceBytes (l ++ m) ≡ traceByt
 unfolding traceBytes
 traceBytes-append [] m = refl
 traceBytes-append (r ∷ l) m =
-    cc (traceBytes-append l m, append-assoc (recordBytes r) (traceBytes l) (traceBytes m))
+    ap (λ (u : List ℕ). recordBytes r ++ u) (traceBytes-append l m) ∙ sym (append-assoc (recordBytes r) (traceBytes l) (traceBytes m))
 
 -- ---- Ranges
 
@@ -36,11 +36,11 @@ pub record Ranges (r : Record) : Type 0 where
 pub ranges : (r : Record) → inRanges inForce r ≡ true → Ranges r
 unfolding inRanges
 ranges r e =
-    let x = both-true _ _ e in
-    let y = both-true _ _ (x .0) in
-    let z = both-true _ _ (y .0) in
-    let transaction = between 1 _ maxTransaction (z .1) in
-    let block = between 1 _ maxBlocks (y .1) in
+    let x = both-true _ (leb (r .outcome) 1) e in
+    let y = both-true _ (leb 1 (r .block) && leb (r .block) maxBlocks) (x .0) in
+    let z = both-true (leb (r .clock) maxClock) _ (y .0) in
+    let transaction = between 1 (r .transaction) maxTransaction (z .1) in
+    let block = between 1 (r .block) maxBlocks (y .1) in
     record {
       clock = leb-true _ _ (z .0);
       first = transaction .0;
@@ -68,7 +68,7 @@ record-room r e = room inForce (lit≤ tt) r e
 
 pub record-positive : (r : Record) → 4 ≤ length (recordBytes r)
 record-positive r =
-    rw recordBytes-length
+    rw (recordBytes-length r)
     (omega (
       arith,
       numberBytes-positive (r .clock),
@@ -88,10 +88,10 @@ pub small : (r : Record) → inRanges inForce r ≡ true → Small r
 small r e =
     let h = ranges r e in
     record {
-      clock = omega arith;
-      transaction = omega arith;
-      block = omega arith;
-      outcome = omega arith;
+      clock = omega (arith, h .clock);
+      transaction = omega (arith, h .transaction);
+      block = omega (arith, h .block);
+      outcome = omega (arith, h .outcome);
     }
 
 -- ---- Stored
@@ -99,7 +99,7 @@ small r e =
 -- bytes stored behind those at the front
 pub stored-behind : (u w l m n : List ℕ) (p : ℕ) → p ≡ length u → m ≡ sets l 0 u → n ≡ sets m p w → n ≡ sets l 0 (u ++ w)
 stored-behind u w l m n p at first then =
-    cc (then, first, at, zero-add (length u), sets-append u w l 0)
+    then ∙ ap₂ (λ (k : List ℕ) (i : ℕ). sets k i w) first (at ∙ sym (zero-add (length u))) ∙ sets-append u w l 0
 
 -- a number written where there is room
 put-there : (at v r : ℕ) (l m : List ℕ) → at + length (numberBytes v) ≤ length l → written-to r m ≡ put v (written-to at l)
@@ -111,7 +111,8 @@ put-there at v r l m h e =
 -- four numbers written one after the other are the record stored at once
 pub written-behind : (r : Record) (l m₁ m₂ m₃ m₄ : List ℕ) (p₁ p₂ p₃ p₄ : ℕ) → length (recordBytes r) ≤ length l
     → written-to p₁ m₁ ≡ put (r .clock) (written-to 0 l) → written-to p₂ m₂ ≡ put (r .transaction) (written-to p₁ m₁)
-    → written-to p₃ m₃ ≡ put (r .block) (written-to p₂ m₂) → written-to p₄ m₄ ≡ put (r .outcome) (written-to p₃ m₃) → m₄ ≡ sets l 0 (recordBytes r)
+    → written-to p₃ m₃ ≡ put (r .block) (written-to p₂ m₂) → written-to p₄ m₄ ≡ put (r .outcome) (written-to p₃ m₃)
+    → m₄ ≡ sets l 0 (recordBytes r)
 unfolding recordBytes
 written-behind r l m₁ m₂ m₃ m₄ p₁ p₂ p₃ p₄ room e₁ e₂ e₃ e₄ =
     let a = numberBytes _ in
@@ -126,23 +127,27 @@ written-behind r l m₁ m₂ m₃ m₄ p₁ p₂ p₃ p₄ room e₁ e₂ e₃ e
     let long₃ = ap length three ∙ length-sets m₂ p₂ d in
     let (at₄, four) = put-there p₃ _ p₄ m₃ m₄ (omega arith) e₄ in
     let ab = length-append a b in
-    stored-behind (a ++ b ++ d) _ l m₃ m₄ p₃ (omega (arith, ab, (length-append (a ++ b) d))) (stored-behind (a ++ b) d l m₂ m₃ p₂ (omega arith) (stored-behind a b l m₁ m₂ p₁ (omega arith) one two) three) four
+    stored-behind (a ++ b ++ d) _ l m₃ m₄ p₃ (omega (arith, ab, (length-append (a ++ b) d)))
+    (stored-behind (a ++ b) d l m₂ m₃ p₂ (omega arith) (stored-behind a b l m₁ m₂ p₁ (omega arith) one two) three) four
 
 -- ---- The answer and the rest afterwards
 
 module _ (r : Record) (l : List ℕ) where
+  -- a field out of range comes before room
   pub refused-range : inRanges inForce r ≡ false → rejected 32 ≡ writeRecord inForce (length l) r
   unfolding writeRecord
   refused-range e = rw e
 
   pub refused-room : inRanges inForce r ≡ true → length l < length (recordBytes r) → rejected 33 ≡ writeRecord inForce (length l) r
   unfolding writeRecord
-  refused-room e h = rw (e, lt-leb)
+  refused-room e h = rw (e, lt-leb (length (recordBytes r)) (length l) h)
 
-  pub written-record : inRanges inForce r ≡ true → length (recordBytes r) ≤ length l → written (recordBytes r) ≡ writeRecord inForce (length l) r
+  pub written-record : inRanges inForce r ≡ true → length (recordBytes r) ≤ length l
+      → written (recordBytes r) ≡ writeRecord inForce (length l) r
   unfolding writeRecord
-  written-record e h = rw (e, le-leb)
+  written-record e h = rw (e, le-leb (length (recordBytes r)) (length l) h)
 
+  -- a refused record leaves the bytes
   pub after-refused : (n : ℕ) → rejected n ≡ writeRecord inForce (length l) r → l ≡ after (writeRecord inForce (length l) r) l
   unfolding after
   after-refused n e = rw (← e)
@@ -151,15 +156,16 @@ module _ (r : Record) (l : List ℕ) where
       sets l 0 (recordBytes r) ≡ after (writeRecord inForce (length l) r) l
   unfolding after
   after-written e h =
-      rw (← e) (cc (sets-eq (recordBytes r) l 0 (omega arith), zero-add (length (recordBytes r))))
+      rw (← e) (sets-eq (recordBytes r) l 0 (omega arith) ∙ ap (λ (n : ℕ). recordBytes r ++ drop n l) (zero-add (length (recordBytes r))))
 
   pub front-written : length (recordBytes r) ≤ length l → take (length (recordBytes r)) (sets l 0 (recordBytes r)) ≡ recordBytes r
-  front-written h = rw (sets-eq (recordBytes r) l 0 (omega arith)) (take-append-seam _ _)
+  front-written h = rw (sets-eq (recordBytes r) l 0 (omega arith)) (take-append-seam (recordBytes r) _)
 
 -- what a caller learns of the count
 pub refused-bytes : {k n : ℕ} → Refused k ≡ Bytes n → ⊥
 refused-bytes {k} {n} e = clash (cc)
 
+-- the length that is answered, by any name
 pub bytes-count : {k n m most : ℕ} → Bytes k ≡ Bytes n → k ≡ m → m ≤ most → (n ≡ m) × (n ≤ most)
 bytes-count {k} {n} {m} {most} e len room =
     let same : n ≡ k = cc in

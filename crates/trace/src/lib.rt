@@ -46,8 +46,11 @@ pub enum Written {
 
 // A number of a record, from lo to hi: 31 if it is not whole, not shortest or not in size, 32 if it is out of range.
 pub fn trace_field(s: &[u8], at: usize, lo: u64, hi: u64) -> Field
-    ensures { λ r. ⌜ ((numbers mentions : ℕ) → parsedOf numbers mentions r ≡ traceField inForce (now (s .entry)) lo hi (cursorAt at numbers mentions)) ⌝ }
-    ensures inside { λ r. ⌜ ((v next : ℕ) → r ≡ Field.Value v next → (lo ≤ v) × (v ≤ hi) × (at < next) × (next ≤ length (now (s .entry)))) ⌝ }
+    ensures { λ r. ⌜
+        ((numbers mentions : ℕ) → parsedOf numbers mentions r ≡ traceField inForce (now (s .entry)) lo hi (cursorAt at numbers mentions))
+        ⌝ }
+    ensures inside { λ r. ⌜
+        ((v next : ℕ) → r ≡ Field.Value v next → (lo ≤ v) × (v ≤ hi) × (at < next) × (next ≤ length (now (s .entry)))) ⌝ }
 {
     read_field(s, at, Model::FIVE_GROUPS, lo, hi, TRACE_NUMBER)
 }
@@ -141,9 +144,14 @@ pub fn write_record(
     block: u64,
     outcome: u64,
 ) -> Written
-    ensures { λ r. ⌜ writingOf (now (rest .exit)) r ≡ writeRecord inForce (length (now (rest .entry))) (entry clock transaction block outcome) ⌝ }
-    ensures bytes { λ _. ⌜ now (rest .exit) ≡ after (writeRecord inForce (length (now (rest .entry))) (entry clock transaction block outcome)) (now (rest .entry)) ⌝ }
-    ensures count { λ r. ⌜ ((n : ℕ) → r ≡ Written.Bytes n → (n ≡ length (recordBytes (entry clock transaction block outcome))) × (n ≤ length (now (rest .entry)))) ⌝ }
+    ensures { λ r. ⌜
+        writingOf (now (rest .exit)) r ≡ writeRecord inForce (length (now (rest .entry))) (entry clock transaction block outcome) ⌝ }
+    ensures bytes { λ _. ⌜
+        now (rest .exit) ≡ after (writeRecord inForce (length (now (rest .entry))) (entry clock transaction block outcome))
+        (now (rest .entry)) ⌝ }
+    ensures count { λ r. ⌜
+        ((n : ℕ) → r ≡ Written.Bytes n → (n ≡ length (recordBytes (entry clock transaction block outcome)))
+        × (n ≤ length (now (rest .entry)))) ⌝ }
 {
     if !in_ranges(clock, transaction, block, outcome) {
         return Written::Refused(TRACE_RANGE);
@@ -167,8 +175,11 @@ fn place_record(rest: &mut [u8], clock: u64, transaction: u64, block: u64, outco
 
 // Writes one record alone. The turns have `write_record` for themselves, so that the compiler sets it into their loop.
 pub fn write_one(rest: &mut [u8], clock: u64, transaction: u64, block: u64, outcome: u64) -> Written
-    ensures { λ r. ⌜ writingOf (now (rest .exit)) r ≡ writeRecord inForce (length (now (rest .entry))) (entry clock transaction block outcome) ⌝ }
-    ensures bytes { λ _. ⌜ now (rest .exit) ≡ after (writeRecord inForce (length (now (rest .entry))) (entry clock transaction block outcome)) (now (rest .entry)) ⌝ }
+    ensures { λ r. ⌜
+        writingOf (now (rest .exit)) r ≡ writeRecord inForce (length (now (rest .entry))) (entry clock transaction block outcome) ⌝ }
+    ensures bytes { λ _. ⌜
+        now (rest .exit) ≡ after (writeRecord inForce (length (now (rest .entry))) (entry clock transaction block outcome))
+        (now (rest .entry)) ⌝ }
     ensures count { λ r. ⌜ ((n : ℕ) → r ≡ Written.Bytes n → n ≤ length (now (rest .entry))) ⌝ }
 {
     if !in_ranges(clock, transaction, block, outcome) {

@@ -5,14 +5,14 @@ use Rattle.trace.proofs as our
 use our.Writer.{record-room}
 use our.fits as f
 
-returns : f.Tie.Need-returns
-returns c =
+returns-record-room-at-most-room : f.Tie.Need-returns
+returns-record-room-at-most-room c =
     let w = c .before in
     let r = entry _ _ _ _ in
     sym (le-leb _ (w .args .room) (omega (arith, record-room r (w .pre))))
 
-returns-2 : f.Tie.Need-returns-2
-returns-2 c = cc (c .record-len .ensures)
+returns-last : f.Tie.Need-returns-2
+returns-last c = cc (c .record-len .ensures)
 
 pub fits-spec : {M : Type 1} → f.Statement.statement M
-fits-spec = f.Tie.close (f.Tie.spec returns (search needs) returns-2)
+fits-spec = f.Tie.close (f.Tie.spec returns-record-room-at-most-room (search needs) returns-last)

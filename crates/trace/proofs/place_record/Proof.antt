@@ -6,8 +6,13 @@ use our.place_record as f
 
 returns : f.Tie.Need-returns
 returns c =
-    let b = c .before .before in
-    written-behind _ _ _ _ _ _ _ _ _ _ (b .before .before .before .before .before .before .before .before .before .before .before .before .before .before .before .pre) (b .before .before .before .before .before .before .before .before .before .before .before .before .write-number .ensures) (b .before .before .before .before .before .before .before .before .write-number2 .ensures) (b .before .before .before .before .write-number3 .ensures) (b .write-number4 .ensures)
+    let at-write-number4 : f.Tie.After-write-number4 = search in
+    let at-write-number3 : f.Tie.After-write-number3 = search in
+    let at-write-number2 : f.Tie.After-write-number2 = search in
+    let at-write-number : f.Tie.After-write-number = search in
+    let start : f.Tie.Start = search in
+    written-behind _ _ _ _ _ _ _ _ _ _ (start .pre) (at-write-number .write-number .ensures) (at-write-number2 .write-number2 .ensures)
+    (at-write-number3 .write-number3 .ensures) (at-write-number4 .write-number4 .ensures)
 
 pub place-record-spec : {M : Type 1} → f.Statement.statement M
 place-record-spec = f.Tie.close (f.Tie.spec (search needs) (search needs) (search needs) (search needs) (search needs) returns)

@@ -5,34 +5,66 @@ use our.Reader.{past-end, clock-refused, transaction-refused, block-refused, out
 use our.read_record as f
 use Rattle.machine.specs.All.{needs}
 
-returns-3 : f.Tie.Need-returns-3
-returns-3 c =
-    let b = c .before .before .before .before .before in
-    transaction-refused _ _ (b .before .before .before .if1 .left) _ _ (value-parsed 0 0 _ (b .before .before .trace-field .ensures .0 0 0) (b .clock .given .1)) _
-    (refusal-parsed 0 0 _ (c .before .before .before .trace-field2 .ensures .0 0 0) (c .before .n2 .given .1))
+returns-refused-trace-field : f.Tie.Need-returns-2
+returns-refused-trace-field c =
+    let at-trace-field : f.Tie.After-trace-field = search in
+    let at-else1 : f.Tie.Else1 = search in
+    clock-refused _ _ (at-else1 .if1 .left) _ (refusal-parsed 0 0 _ (at-trace-field .trace-field .ensures .0 0 0) (c .before .n .given .1))
 
-returns-4 : f.Tie.Need-returns-4
-returns-4 c =
-    let d = c .before .before .before in
-    let b = d .before .before .before .before in
-    block-refused _ _ (b .before .before .before .before .before .if1 .left) _ _ (value-parsed 0 0 _ (b .before .before .before .before .trace-field .ensures .0 0 0) (b .before .before .clock .given .1)) _ _
-    (value-parsed 0 0 _ (b .trace-field2 .ensures .0 0 0) (d .before .before .transaction .given .1)) _ (refusal-parsed 0 0 _ (d .trace-field3 .ensures .0 0 0) (c .before .n3 .given .1))
+returns-refused-trace-field-2 : f.Tie.Need-returns-3
+returns-refused-trace-field-2 c =
+    let at-trace-field2 : f.Tie.After-trace-field2 = search in
+    let at-clock : f.Tie.After-clock = search in
+    let at-trace-field : f.Tie.After-trace-field = search in
+    let at-else1 : f.Tie.Else1 = search in
+    transaction-refused _ _ (at-else1 .if1 .left) _ _
+    (value-parsed 0 0 _ (at-trace-field .trace-field .ensures .0 0 0) (at-clock .clock .given .1)) _
+    (refusal-parsed 0 0 _ (at-trace-field2 .trace-field2 .ensures .0 0 0) (c .before .n2 .given .1))
 
-returns-5 : f.Tie.Need-returns-5
-returns-5 c =
-    let d = c .before .before .before .before .before in
-    let b = d .before .before .before .before in
-    outcome-refused _ _ (b .before .before .before .before .before .before .before .if1 .left) _ _ (value-parsed 0 0 _ (b .before .before .before .before .before .before .trace-field .ensures .0 0 0) (b .before .before .before .before .clock .given .1)) _ _
-    (value-parsed 0 0 _ (b .before .before .trace-field2 .ensures .0 0 0) (b .transaction .given .1)) _ _ (value-parsed 0 0 _ (d .before .before .trace-field3 .ensures .0 0 0) (d .block .given .1)) _
-    (refusal-parsed 0 0 _ (c .before .before .before .trace-field4 .ensures .0 0 0) (c .before .n4 .given .1))
+returns-refused-trace-field-3 : f.Tie.Need-returns-4
+returns-refused-trace-field-3 c =
+    let at-trace-field3 : f.Tie.After-trace-field3 = search in
+    let at-transaction : f.Tie.After-transaction = search in
+    let at-trace-field2 : f.Tie.After-trace-field2 = search in
+    let at-clock : f.Tie.After-clock = search in
+    let at-trace-field : f.Tie.After-trace-field = search in
+    let at-else1 : f.Tie.Else1 = search in
+    block-refused _ _ (at-else1 .if1 .left) _ _
+    (value-parsed 0 0 _ (at-trace-field .trace-field .ensures .0 0 0) (at-clock .clock .given .1)) _ _
+    (value-parsed 0 0 _ (at-trace-field2 .trace-field2 .ensures .0 0 0) (at-transaction .transaction .given .1)) _
+    (refusal-parsed 0 0 _ (at-trace-field3 .trace-field3 .ensures .0 0 0) (c .before .n3 .given .1))
 
-returns-6 : f.Tie.Need-returns-6
-returns-6 c =
-    let d = c .before .before .before .before .before in
-    let b = d .before .before .before .before in
-    record-taken _ _ (b .before .before .before .before .before .before .before .if1 .left) _ _ (value-parsed 0 0 _ (b .before .before .before .before .before .before .trace-field .ensures .0 0 0) (b .before .before .before .before .clock .given .1)) _ _
-    (value-parsed 0 0 _ (b .before .before .trace-field2 .ensures .0 0 0) (b .transaction .given .1)) _ _ (value-parsed 0 0 _ (d .before .before .trace-field3 .ensures .0 0 0) (d .block .given .1)) _ _
-    (value-parsed 0 0 _ (c .before .before .before .trace-field4 .ensures .0 0 0) (c .before .outcome .given .1))
+returns-refused-trace-field-4 : f.Tie.Need-returns-5
+returns-refused-trace-field-4 c =
+    let at-trace-field4 : f.Tie.After-trace-field4 = search in
+    let at-block : f.Tie.After-block = search in
+    let at-trace-field3 : f.Tie.After-trace-field3 = search in
+    let at-transaction : f.Tie.After-transaction = search in
+    let at-trace-field2 : f.Tie.After-trace-field2 = search in
+    let at-clock : f.Tie.After-clock = search in
+    let at-trace-field : f.Tie.After-trace-field = search in
+    let at-else1 : f.Tie.Else1 = search in
+    outcome-refused _ _ (at-else1 .if1 .left) _ _
+    (value-parsed 0 0 _ (at-trace-field .trace-field .ensures .0 0 0) (at-clock .clock .given .1)) _ _
+    (value-parsed 0 0 _ (at-trace-field2 .trace-field2 .ensures .0 0 0) (at-transaction .transaction .given .1)) _ _
+    (value-parsed 0 0 _ (at-trace-field3 .trace-field3 .ensures .0 0 0) (at-block .block .given .1)) _
+    (refusal-parsed 0 0 _ (at-trace-field4 .trace-field4 .ensures .0 0 0) (c .before .n4 .given .1))
+
+returns-value : f.Tie.Need-returns-6
+returns-value c =
+    let at-trace-field4 : f.Tie.After-trace-field4 = search in
+    let at-block : f.Tie.After-block = search in
+    let at-trace-field3 : f.Tie.After-trace-field3 = search in
+    let at-transaction : f.Tie.After-transaction = search in
+    let at-trace-field2 : f.Tie.After-trace-field2 = search in
+    let at-clock : f.Tie.After-clock = search in
+    let at-trace-field : f.Tie.After-trace-field = search in
+    let at-else1 : f.Tie.Else1 = search in
+    record-taken _ _ (at-else1 .if1 .left) _ _
+    (value-parsed 0 0 _ (at-trace-field .trace-field .ensures .0 0 0) (at-clock .clock .given .1)) _ _
+    (value-parsed 0 0 _ (at-trace-field2 .trace-field2 .ensures .0 0 0) (at-transaction .transaction .given .1)) _ _
+    (value-parsed 0 0 _ (at-trace-field3 .trace-field3 .ensures .0 0 0) (at-block .block .given .1)) _ _
+    (value-parsed 0 0 _ (at-trace-field4 .trace-field4 .ensures .0 0 0) (c .before .outcome .given .1))
 
 pub read-record-spec : {M : Type 1} → f.Statement.statement M
 read-record-spec =
@@ -51,8 +83,8 @@ read-record-spec =
     (search needs)
     (search needs)
     (search needs)
-    (λ c. clock-refused _ _ (c .before .before .before .before .if1 .left) _ (refusal-parsed 0 0 _ (c .before .before .before .trace-field .ensures .0 0 0) (c .before .n .given .1)))
-    returns-3
-    returns-4
-    returns-5
-    returns-6)
+    returns-refused-trace-field
+    returns-refused-trace-field-2
+    returns-refused-trace-field-3
+    returns-refused-trace-field-4
+    returns-value)

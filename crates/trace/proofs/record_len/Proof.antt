@@ -6,21 +6,52 @@ use our.Writer.{recordBytes-length}
 use our.record_len as f
 use Rattle.trace.specs.{entry}
 
+add-result : f.Tie.Need-add-result
+add-result c =
+    let start : f.Tie.Start = search in
+    omega (arith, numberBytes-longest (start .args .clock), c .number-len2 .ensures, numberBytes-longest (start .args .transaction))
+
 add-result-2 : f.Tie.Need-add-result-2
 add-result-2 c =
-    let b = c .before .before in
-    omega (arith, b .number-len .ensures, numberBytes-longest (b .before .args .clock), numberBytes-longest (b .before .args .transaction), c .number-len3 .ensures, numberBytes-longest (b .before .args .block))
+    let at-number-len : f.Tie.After-number-len = search in
+    let start : f.Tie.Start = search in
+    omega (
+      arith,
+      at-number-len .number-len .ensures,
+      numberBytes-longest (start .args .clock),
+      numberBytes-longest (start .args .transaction),
+      c .number-len3 .ensures,
+      numberBytes-longest (start .args .block),
+    )
 
 add-result-3 : f.Tie.Need-add-result-3
 add-result-3 c =
-    let b = c .before .before .before in
-    omega (arith, b .number-len .ensures, numberBytes-longest (b .before .args .clock), numberBytes-longest (b .before .args .transaction), c .before .number-len3 .ensures, numberBytes-longest (b .before .args .block), c .number-len4 .ensures, numberBytes-longest (b .before .args .outcome))
+    let at-number-len : f.Tie.After-number-len = search in
+    let start : f.Tie.Start = search in
+    omega (
+      arith,
+      at-number-len .number-len .ensures,
+      numberBytes-longest (start .args .clock),
+      numberBytes-longest (start .args .transaction),
+      c .before .number-len3 .ensures,
+      numberBytes-longest (start .args .block),
+      c .number-len4 .ensures,
+      numberBytes-longest (start .args .outcome),
+    )
 
 returns : f.Tie.Need-returns
 returns c =
-    let b = c .before .before in
-    let w = b .before .before .args in
-    omega (arith, recordBytes-length (entry (w .clock) (w .transaction) (w .block) (w .outcome)), b .before .number-len .ensures, b .number-len2 .ensures, c .number-len4 .ensures)
+    let at-number-len2 : f.Tie.After-number-len2 = search in
+    let at-number-len : f.Tie.After-number-len = search in
+    let start : f.Tie.Start = search in
+    let w = start .args in
+    omega (
+      arith,
+      recordBytes-length (entry (w .clock) (w .transaction) (w .block) (w .outcome)),
+      at-number-len .number-len .ensures,
+      at-number-len2 .number-len2 .ensures,
+      c .number-len4 .ensures,
+    )
 
 pub record-len-spec : {M : Type 1} → f.Statement.statement M
 record-len-spec =
@@ -28,7 +59,7 @@ record-len-spec =
     (f.Tie.spec
     (search needs)
     (search needs)
-    (λ c. omega (arith, numberBytes-longest (c .before .before .args .clock), c .number-len2 .ensures, numberBytes-longest (c .before .before .args .transaction)))
+    add-result
     (search needs)
     add-result-2
     (search needs)

@@ -4,33 +4,47 @@ use Rattle.trace.proofs as our
 use our.Writer.{refused-range, refused-room, written-record, after-refused, after-written, front-written, refused-bytes, bytes-count}
 use our.write_record as f
 
-returns : f.Tie.Need-returns
-returns c = let e = refused-range _ (c .before .before .before .args .rest .now) (sym (c .before .in-ranges .ensures) ∙ not-true _ (c .if1 .taken)) in
+returns-not-in-ranges : f.Tie.Need-returns
+returns-not-in-ranges c =
+    let start : f.Tie.Start = search in
+    let e = refused-range _ (start .args .rest .now) (sym (c .before .in-ranges .ensures) ∙ not-true _ (c .if1 .taken)) in
     (e, (after-refused _ _ 32 e, λ n h. absurd (refused-bytes h)))
 
-returns-2 : f.Tie.Need-returns-2
-returns-2 c =
-    let b = c .before .before in
+fits-requires : f.Tie.Need-fits-requires
+fits-requires c κs =
+    sym (c .before .in-ranges .ensures) ∙ not-false _ (c .if1 .left)
+
+returns-not-fits : f.Tie.Need-returns-2
+returns-not-fits c =
+    let at-else1 : f.Tie.Else1 = search in
+    let at-in-ranges : f.Tie.After-in-ranges = search in
+    let start : f.Tie.Start = search in
     let full = leb-false _ _ (sym (c .before .fits2 .ensures) ∙ not-true _ (c .if2 .taken)) in
-    let e = refused-room _ (b .before .before .before .args .rest .now) (sym (b .before .in-ranges .ensures) ∙ not-false _ (b .if1 .left)) full in
+    let e = refused-room _ (start .args .rest .now) (sym (at-in-ranges .in-ranges .ensures) ∙ not-false _ (at-else1 .if1 .left)) full in
     (e, (after-refused _ _ 33 e, λ n h. absurd (refused-bytes h)))
 
 put-record-requires : f.Tie.Need-put-record-requires
 put-record-requires c κs =
-    let b = c .before .before in (
-      sym (b .before .before .in-ranges .ensures) ∙ not-false _ (b .before .if1 .left),
-      leb-true _ _ (sym (b .fits2 .ensures) ∙ not-false _ (c .before .if2 .left)),
+    let at-fits2 : f.Tie.After-fits2 = search in
+    let at-else1 : f.Tie.Else1 = search in
+    let at-in-ranges : f.Tie.After-in-ranges = search in (
+      sym (at-in-ranges .in-ranges .ensures) ∙ not-false _ (at-else1 .if1 .left),
+      leb-true _ _ (sym (at-fits2 .fits2 .ensures) ∙ not-false _ (c .before .if2 .left)),
     )
 
-returns-3 : f.Tie.Need-returns-3
-returns-3 c =
-    let d = c .before .before in
-    let b = d .before .before in
-    let l = b .before .before .before .before .before .args .rest .now in
-    let room = leb-true _ _ (sym (b .before .fits2 .ensures) ∙ not-false _ (b .if2 .left)) in
-    let len = d .put-record .ensures .0 in
-    let stored = d .put-record .ensures .1 in
-    let e = written-record _ l (sym (b .before .before .before .in-ranges .ensures) ∙ not-false _ (b .before .before .if1 .left)) room in (
+returns-last : f.Tie.Need-returns-3
+returns-last c =
+    let at-put-record : f.Tie.After-put-record = search in
+    let at-else2 : f.Tie.Else2 = search in
+    let at-fits2 : f.Tie.After-fits2 = search in
+    let at-else1 : f.Tie.Else1 = search in
+    let at-in-ranges : f.Tie.After-in-ranges = search in
+    let start : f.Tie.Start = search in
+    let l = start .args .rest .now in
+    let room = leb-true _ _ (sym (at-fits2 .fits2 .ensures) ∙ not-false _ (at-else2 .if2 .left)) in
+    let len = at-put-record .put-record .ensures .0 in
+    let stored = at-put-record .put-record .ensures .1 in
+    let e = written-record _ l (sym (at-in-ranges .in-ranges .ensures) ∙ not-false _ (at-else1 .if1 .left)) room in (
       rw (len, stored) (cc (front-written _ l room, e)),
       (stored ∙ after-written _ l e room, λ n h. bytes-count h len room),
     )
@@ -40,9 +54,9 @@ write-record-spec =
     f.Tie.close
     (f.Tie.spec
     (search needs)
-    returns
-    (λ c κs. sym (c .before .in-ranges .ensures) ∙ not-false _ (c .if1 .left))
-    returns-2
+    returns-not-in-ranges
+    fits-requires
+    returns-not-fits
     put-record-requires
     (search needs)
-    returns-3)
+    returns-last)

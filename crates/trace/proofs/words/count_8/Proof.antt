@@ -2,5 +2,9 @@
 use Rattle.machine.specs.All.{needs}
 use Rattle.trace.proofs.words.count_8 as f
 
+returns : f.Tie.Need-returns
+returns c =
+    (rw (c .before .word-at .ensures .bytes) at (c .count-word .ensures .0), c .count-word .ensures .1)
+
 pub count-8-spec : {M : Type 1} → f.Statement.statement M
-count-8-spec = f.Tie.close (f.Tie.spec (search needs) (search needs) (λ c. (rw (c .before .word-at .ensures .bytes) at (c .count-word .ensures .0), c .count-word .ensures .1)))
+count-8-spec = f.Tie.close (f.Tie.spec (search needs) (search needs) returns)

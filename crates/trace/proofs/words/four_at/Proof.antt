@@ -4,5 +4,15 @@ use Rattle.trace.proofs as our
 use our.WordLaws.{holds-beside}
 use our.words.four_at as f
 
+returns : f.Tie.Need-returns
+returns c =
+    holds-beside _ _ 2 2 (c .before .two-at .ensures) (c .two-at2 .ensures)
+
 pub four-at-spec : {M : Type 1} → f.Statement.statement M
-four-at-spec = f.Tie.close (f.Tie.spec (search needs) (search needs) (search needs) (search needs) (search needs) (λ c. holds-beside _ _ 2 2 (c .before .two-at .ensures) (c .two-at2 .ensures)))
+four-at-spec = f.Tie.close (f.Tie.spec
+    (search needs)
+    (search needs)
+    (search needs)
+    (search needs)
+    (search needs)
+    returns)

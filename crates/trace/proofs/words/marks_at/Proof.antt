@@ -2,5 +2,9 @@
 use Rattle.machine.specs.All.{needs}
 use Rattle.trace.proofs.words.marks_at as f
 
+returns : f.Tie.Need-returns
+returns c =
+    rw (c .before .word-at .ensures .bytes) at (c .marks .ensures)
+
 pub marks-at-spec : {M : Type 1} → f.Statement.statement M
-marks-at-spec = f.Tie.close (f.Tie.spec (search needs) (search needs) (λ c. rw (c .before .word-at .ensures .bytes) at (c .marks .ensures)))
+marks-at-spec = f.Tie.close (f.Tie.spec (search needs) (search needs) returns)

@@ -6,7 +6,8 @@ use our.words.two_at as f
 
 returns : f.Tie.Need-returns
 returns c =
-    let low = c .before .before .wide .ensures in
+    let at-wide : f.Tie.After-wide = search in
+    let low = at-wide .wide .ensures in
     let high = c .wide2 .ensures in
     holds-beside _ _ 1 1 (holds-byte _ _ (search needs) (low .0) (low .1)) (holds-byte _ _ (search needs) (high .0) (high .1))
 
