@@ -120,7 +120,7 @@ line-most p q v from to rising not-falling most =
 around-most : (p : Point) (l : List Point) (v : ℕ) → p .u ≤ v → v < drawParts → Rising p l → lineTime (around p l v) v ≤ maxTime
 unfolding around
 around-most p [] v from inside h = absurd (omega arith)
-around-most p (q ∷ l) v from inside h = go _ refl (λ past. around-most q l v past inside (h .1))
+around-most p (q ∷ l) v from inside h = go (ltb v (q .u)) refl (λ past. around-most q l v past inside (h .1))
   where
     go : (t : Bool) → ltb v (q .u) ≡ t → (q .u ≤ v → lineTime (around q l v) v ≤ maxTime) →
         lineTime (cond t (record { from = p; to = q }) (around q l v)) v ≤ maxTime
