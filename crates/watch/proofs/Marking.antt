@@ -1,5 +1,5 @@
 -- Marks as a set of things: what a term or a sum names is in it once its cells are marked.
-use Rattle.machine.specs.All.{cases, ℕ, zero, suc, _+_, _-_, _%_, _≤_, _<_, arith, Bool, true, cond, List, [], _∷_, _++_, _≡_, refl, sym, _∙_, subst, lt-ltb, ltb-true, eq-eqb, ltb, eqb, length, getD, set, length-set, getD-set-same, getD-set-other, Term, constant, minusConstant, parameter, clockTerm, entriesOf, contentOf, unitsInUse, unitsFree, facilityInUse, value, comparison, bracket, Sum, nothing, plus, minus, Each, Thing, own, theClock, entry, queue, server, worth, Within, SumWithin}
+use Rattle.machine.specs.All.{ℕ, zero, suc, _+_, _-_, _%_, _≤_, _<_, arith, Bool, true, cond, List, [], _∷_, _++_, _≡_, refl, sym, _∙_, subst, lt-ltb, ltb-true, eq-eqb, ltb, eqb, length, getD, set, length-set, getD-set-same, getD-set-other, Term, constant, minusConstant, parameter, clockTerm, entriesOf, contentOf, unitsInUse, unitsFree, facilityInUse, value, comparison, bracket, Sum, nothing, plus, minus, Each, Thing, own, theClock, entry, queue, server, worth, Within, SumWithin, false}
 use Rattle.watch.specs.{queueMarks, serverMarks, valueMarks, clockMark, ownMark, noMark, marksSize}
 use Rattle.watch.proofs.Walking.{markAll, valueCell, termCells, sumCells}
 
@@ -30,7 +30,11 @@ record Cells (P : ℕ → Type 0) (lower : ℕ) : Type 0 where
 module _ (P : ℕ → Type 0) (lower : ℕ) (c : Cells P lower) where
   value-each : (k : ℕ) → P (valueCell lower k)
   unfolding valueCell
-  value-each k = cases (ltb k lower) (λ e. rw e (c .values k (ltb-true k lower e))) (λ e. rw e (c .nothing-named))
+  value-each k = go (ltb k lower) refl
+    where
+      go : (b : Bool) → ltb k lower ≡ b → P (cond b (valueMarks + k % 8) noMark)
+      go true e = c .values k (ltb-true k lower e)
+      go false e = c .nothing-named
 
   mutual
     unfolding termCells
@@ -90,15 +94,16 @@ set-keeps (x ∷ marks) zero (suc i) h = h
 set-keeps (x ∷ marks) (suc c) zero h = h
 set-keeps (x ∷ marks) (suc c) (suc i) h = set-keeps marks c i h
 
+-- a cell once marked stays so
 pub all-keeps : (l marks : List ℕ) (i : ℕ) → getD marks i 0 ≡ 1 → getD (markAll l marks) i 0 ≡ 1
 unfolding markAll
 all-keeps [] marks i h = h
-all-keeps (c ∷ l) marks i h = all-keeps l _ i (set-keeps marks c i h)
+all-keeps (c ∷ l) marks i h = all-keeps l (set marks c 1) i (set-keeps marks c i h)
 
 pub all-length : (l marks : List ℕ) → length (markAll l marks) ≡ length marks
 unfolding markAll
 all-length [] marks = refl
-all-length (c ∷ l) marks = all-length l _ ∙ length-set marks c 1
+all-length (c ∷ l) marks = all-length l (set marks c 1) ∙ length-set marks c 1
 
 all-marked : (l marks : List ℕ) → Each (λ c. c < length marks) l → Each (λ c. getD (markAll l marks) c 0 ≡ 1) l
 unfolding markAll
@@ -109,18 +114,21 @@ all-marked (c ∷ l) marks h =
 all-others : (l marks : List ℕ) (i : ℕ) → Each (λ c. c ≡ i → ⊥) l → getD (markAll l marks) i 0 ≡ getD marks i 0
 unfolding markAll
 all-others [] marks i h = refl
-all-others (c ∷ l) marks i h = all-others l _ i (h .1) ∙ getD-set-other marks c i 1 0 (λ e. h .0 (sym e))
+all-others (c ∷ l) marks i h = all-others l (set marks c 1) i (h .1) ∙ getD-set-other marks c i 1 0 (λ e. h .0 (sym e))
 
 module _ (lower : ℕ) (few : lower ≤ 8) (marks : List ℕ) (size : length marks ≡ marksSize) where
+  -- marking the cells of a term marks each of them
   pub term-marked : (t : Term) → Each (λ c. getD (markAll (termCells lower t) marks) c 0 ≡ 1) (termCells lower t)
   term-marked t =
       all-marked (termCells lower t) marks
       (rw size (term-each (λ i. i < marksSize) lower (inside-cells lower few) t))
 
-  pub both-marked : (a b : Term) → Each (λ c. getD (markAll (termCells lower a ++ termCells lower b) marks) c 0 ≡ 1) (termCells lower a ++ termCells lower b)
+  pub both-marked : (a b : Term) → Each (λ c. getD (markAll (termCells lower a ++ termCells lower b) marks) c 0 ≡ 1)
+      (termCells lower a ++ termCells lower b)
   both-marked a b =
       all-marked (termCells lower a ++ termCells lower b) marks
-      (rw size (each-both (λ i. i < marksSize) (termCells lower a) (termCells lower b) (term-each (λ i. i < marksSize) lower (inside-cells lower few) a)
+      (rw size (each-both (λ i. i < marksSize) (termCells lower a) (termCells lower b)
+      (term-each (λ i. i < marksSize) lower (inside-cells lower few) a)
       (term-each (λ i. i < marksSize) lower (inside-cells lower few) b)))
 
   pub sum-marked : (e : Sum) → Each (λ c. getD (markAll (sumCells lower e) marks) c 0 ≡ 1) (sumCells lower e)
@@ -128,10 +136,11 @@ module _ (lower : ℕ) (few : lower ≤ 8) (marks : List ℕ) (size : length mar
       all-marked (sumCells lower e) marks
       (rw size (sum-each (λ i. i < marksSize) lower (inside-cells lower few) e))
 
+-- a sum marks no value that is not lower
 pub sum-others : (lower k : ℕ) → lower ≤ k → k < 8 → (e : Sum) (marks : List ℕ)
     → getD (markAll (sumCells lower e) marks) (valueMarks + k) 0 ≡ getD marks (valueMarks + k) 0
 sum-others lower k above few e marks =
-    all-others _ marks _ (sum-each (λ i. i ≡ valueMarks + k → ⊥) lower (other-cells lower k above few) e)
+    all-others (sumCells lower e) marks (valueMarks + k) (sum-each (λ i. i ≡ valueMarks + k → ⊥) lower (other-cells lower k above few) e)
 
 -- ---- Marks as a set of things
 
@@ -156,6 +165,7 @@ module _ (marks : List ℕ) (lower : ℕ) where
   mutual
     unfolding termCells valueCell
 
+    -- a term whose cells are marked reads nothing that is not marked
     pub term-within : (t : Term) → Each P (termCells lower t) → Within (Marked marks) lower t
     term-within (constant n) h = tt
     term-within (minusConstant n) h = tt
@@ -166,14 +176,22 @@ module _ (marks : List ℕ) (lower : ℕ) where
     term-within (unitsInUse v) h = eq-eqb _ 1 (h .0)
     term-within (unitsFree v) h = eq-eqb _ 1 (h .0)
     term-within (facilityInUse v) h = eq-eqb _ 1 (h .0)
-    term-within (value k) h = λ lt. eq-eqb _ 1 (subst (λ (b : Bool). P (cond b (valueMarks + (k - 1) % 8) noMark)) (lt-ltb (k - 1) lower lt) (h .0))
-    term-within (comparison r a b) h =
-        (term-within a (each-front P (termCells lower a) (termCells lower b) h), term-within b (each-back P (termCells lower a) (termCells lower b) h))
+    term-within (value k) h =
+        λ lt. eq-eqb _ 1 (subst (λ (b : Bool). P (cond b (valueMarks + (k - 1) % 8) noMark)) (lt-ltb (k - 1) lower lt) (h .0))
+    term-within (comparison r a b) h = (
+      term-within a (each-front P (termCells lower a) (termCells lower b) h),
+      term-within b (each-back P (termCells lower a) (termCells lower b) h),
+    )
     term-within (bracket e) h = sum-within e h
 
+    -- and so of a sum
     pub sum-within : (e : Sum) → Each P (sumCells lower e) → SumWithin (Marked marks) lower e
     sum-within nothing h = tt
-    sum-within (plus t e) h =
-        (term-within t (each-front P (termCells lower t) (sumCells lower e) h), sum-within e (each-back P (termCells lower t) (sumCells lower e) h))
-    sum-within (minus t e) h =
-        (term-within t (each-front P (termCells lower t) (sumCells lower e) h), sum-within e (each-back P (termCells lower t) (sumCells lower e) h))
+    sum-within (plus t e) h = (
+      term-within t (each-front P (termCells lower t) (sumCells lower e) h),
+      sum-within e (each-back P (termCells lower t) (sumCells lower e) h),
+    )
+    sum-within (minus t e) h = (
+      term-within t (each-front P (termCells lower t) (sumCells lower e) h),
+      sum-within e (each-back P (termCells lower t) (sumCells lower e) h),
+    )

@@ -15,7 +15,7 @@ markAll (c ∷ l) marks = markAll l (set marks c 1)
 pub markAll-append : (a b marks : List ℕ) → markAll (a ++ b) marks ≡ markAll b (markAll a marks)
 unfolding markAll
 markAll-append [] b marks = refl
-markAll-append (c ∷ a) b marks = markAll-append a b _
+markAll-append (c ∷ a) b marks = markAll-append a b (set marks c 1)
 
 unfoldable pub valueCell : (lower k : ℕ) → ℕ
 valueCell lower k = cond (ltb k lower) (valueMarks + k % 8) noMark
@@ -50,17 +50,19 @@ module _ (tables : List ℕ) (lower : ℕ) where
       → termFrom tables lower depth at marks ≡ walked (at + 2) (markAll (c ∷ []) marks)
   unfolding markAll
   simple depth at tag n c marks h l e =
-      let f = at-first tables at tag _ h in
-      let g = at-first tables _ n [] (f .after) in
-      cc (term-simple tables lower at marks (f .inside) tag n (f .found) (g .found) depth l, e)
+      let f = at-first tables at tag (n ∷ []) h in
+      let g = at-first tables (at + 1) n [] (f .after) in
+      term-simple tables lower at marks (f .inside) tag n (f .found) (g .found) depth l
+      ∙ ap (λ (i : ℕ). walked (at + 2) (set marks i 1)) e
 
   -- two terms of a comparison
   both : (term : ℕ → List ℕ → Walked) (at next after : ℕ) (marks marks₁ marks₂ : List ℕ) → at < length tables → next < length tables
-      → term at marks ≡ walked next marks₁ → term next marks₁ ≡ walked after marks₂ → termsFrom tables term 0 2 at marks ≡ walked after marks₂
+      → term at marks ≡ walked next marks₁ → term next marks₁ ≡ walked after marks₂
+      → termsFrom tables term 0 2 at marks ≡ walked after marks₂
   both term at next after marks marks₁ marks₂ h k e f =
       let none : (n : ℕ) → n + 0 ≡ n = λ n. omega arith in
-      terms-more tables term 0 at marks 2 (λ z. omega arith) h next marks₁ (cc (none at, e))
-      ∙ terms-more tables term 0 next marks₁ 1 (λ z. omega arith) k after marks₂ (cc (none next, f))
+      terms-more tables term 0 at marks 2 (λ z. omega arith) h next marks₁ (sym (ap (λ (i : ℕ). term i marks) (none at) ∙ e))
+      ∙ terms-more tables term 0 next marks₁ 1 (λ z. omega arith) k after marks₂ (sym (ap (λ (i : ℕ). term i marks₁) (none next) ∙ f))
       ∙ terms-none tables term 0 after marks₂ 0 refl
 
   -- a term stands where it begins
@@ -87,20 +89,26 @@ module _ (tables : List ℕ) (lower : ℕ) where
       → termsFrom tables (termFrom tables lower depth) 1 (suc (terms e)) at marks
       ≡ walked (at + suc (length (termNumbers t ++ signedTerms e))) (markAll (termCells lower t ++ sumCells lower e) marks)
   next-term sign t e depth at marks h first rest =
-      let f = at-first tables at sign _ h in
+      let f = at-first tables at sign (termNumbers t ++ signedTerms e) h in
       let one : suc (terms e) - 1 ≡ terms e = omega arith in
       let end : at + 1 + length (termNumbers t) + length (signedTerms e) ≡ at + suc (length (termNumbers t ++ signedTerms e))
       = omega (arith, length-append (termNumbers t) (signedTerms e)) in
-      cc (terms-more tables (termFrom tables lower depth) 1 at marks (suc (terms e)) (λ z. omega arith) (f .inside) _ _ (sym first), one, rest, end, markAll-append (termCells lower t) (sumCells lower e) marks)
+      terms-more tables (termFrom tables lower depth) 1 at marks (suc (terms e)) (λ z. omega arith) (f .inside) _ _ (sym first)
+      ∙ ap (λ (n : ℕ). termsFrom tables (termFrom tables lower depth) 1 n (at + 1 + length (termNumbers t))
+      (markAll (termCells lower t) marks)) one
+      ∙ rest ∙ ap₂ walked end (sym (markAll-append (termCells lower t) (sumCells lower e) marks))
 
-  none-walked : (depth at : ℕ) (marks : List ℕ) → termsFrom tables (termFrom tables lower depth) 1 0 at marks ≡ walked (at + 0) (markAll [] marks)
+  none-walked : (depth at : ℕ) (marks : List ℕ)
+      → termsFrom tables (termFrom tables lower depth) 1 0 at marks ≡ walked (at + 0) (markAll [] marks)
   unfolding markAll
   none-walked depth at marks =
-      let end : at ≡ at + 0 = omega arith in cc (terms-none tables (termFrom tables lower depth) 1 at marks 0 refl, end)
+      let end : at ≡ at + 0 = omega arith in
+      terms-none tables (termFrom tables lower depth) 1 at marks 0 refl ∙ ap (λ (n : ℕ). walked n marks) end
 
   mutual
     unfolding terms termNumbers termCells cellOf valueCell
 
+    -- the walk over a term's numbers marks its cells and ends behind them
     pub term-walked : (t : Term) (depth at : ℕ) (marks : List ℕ) → At tables at (termNumbers t) → length (termNumbers t) ≤ depth
         → termFrom tables lower depth at marks ≡ walked (at + length (termNumbers t)) (markAll (termCells lower t) marks)
     term-walked (constant n) depth at marks h room = simple depth at 0 n _ marks h (lit< tt) refl
@@ -117,13 +125,16 @@ module _ (tables : List ℕ) (lower : ℕ) where
         let f = at-first tables at 10 (relationNumber r ∷ (termNumbers a ++ termNumbers b)) h in
         let g = at-first tables (at + 1) (relationNumber r) (termNumbers a ++ termNumbers b) (f .after) in
         let two : at + 1 + 1 ≡ at + 2 = omega arith in
-        let rest : At tables (at + 2) (termNumbers a ++ termNumbers b) = subst (λ (i : ℕ). At tables i (termNumbers a ++ termNumbers b)) two (g .after) in
+        let rest : At tables (at + 2) (termNumbers a ++ termNumbers b) =
+        subst (λ (i : ℕ). At tables i (termNumbers a ++ termNumbers b)) two (g .after) in
         let atA = at-front tables (at + 2) (termNumbers a) (termNumbers b) rest in
         let atB = at-back tables (at + 2) (termNumbers a) (termNumbers b) rest in
         let size = length-append (termNumbers a) (termNumbers b) in
-        let end : at + 2 + length (termNumbers a) + length (termNumbers b) ≡ at + suc (suc (length (termNumbers a ++ termNumbers b))) = omega arith in
+        let end : at + 2 + length (termNumbers a) + length (termNumbers b) ≡ at + suc (suc (length (termNumbers a ++ termNumbers b))) =
+        omega arith in
         term-comparison tables lower at marks (f .inside) 10 (relationNumber r) (f .found) (g .found) depth (λ z. omega arith) refl
-        ∙ both (termFrom tables lower (depth - 1)) (at + 2) (at + 2 + length (termNumbers a)) (at + 2 + length (termNumbers a) + length (termNumbers b))
+        ∙ both (termFrom tables lower (depth - 1)) (at + 2) (at + 2 + length (termNumbers a))
+        (at + 2 + length (termNumbers a) + length (termNumbers b))
         marks (markAll (termCells lower a) marks) (markAll (termCells lower b) (markAll (termCells lower a) marks))
         (inside a (at + 2) atA) (inside b (at + 2 + length (termNumbers a)) atB)
         (term-walked a (depth - 1) (at + 2) marks atA (omega arith))
@@ -135,39 +146,47 @@ module _ (tables : List ℕ) (lower : ℕ) where
         let two : at + 1 + 1 ≡ at + 2 = omega arith in
         let rest : At tables (at + 2) (signedTerms e) = subst (λ (i : ℕ). At tables i (signedTerms e)) two (g .after) in
         let end : at + 2 + length (signedTerms e) ≡ at + suc (suc (length (signedTerms e))) = omega arith in
-        term-bracket tables lower at marks (f .inside) 11 (terms e) (f .found) (g .found) depth (λ z. omega arith) (lit≤ tt) (λ z. omega arith)
+        term-bracket tables lower at marks (f .inside) 11 (terms e) (f .found) (g .found) depth (λ z. omega arith) (lit≤ tt)
+        (λ z. omega arith)
         ∙ sum-walked e (depth - 1) (at + 2) marks rest (omega arith)
         ∙ ap (λ (n : ℕ). walked n (markAll (sumCells lower e) marks)) end
 
+    -- and so of a sum
     pub sum-walked : (e : Sum) (depth at : ℕ) (marks : List ℕ) → At tables at (signedTerms e) → length (signedTerms e) ≤ depth
-        → termsFrom tables (termFrom tables lower depth) 1 (terms e) at marks ≡ walked (at + length (signedTerms e)) (markAll (sumCells lower e) marks)
+        → termsFrom tables (termFrom tables lower depth) 1 (terms e) at marks
+        ≡ walked (at + length (signedTerms e)) (markAll (sumCells lower e) marks)
     sum-walked nothing depth at marks h room = none-walked depth at marks
     sum-walked (plus t e) depth at marks h room =
         let rest = at-first tables at 0 (termNumbers t ++ signedTerms e) h .after in
         let size = length-append (termNumbers t) (signedTerms e) in
         next-term 0 t e depth at marks h
         (term-walked t depth (at + 1) marks (at-front tables (at + 1) (termNumbers t) (signedTerms e) rest) (omega arith))
-        (sum-walked e depth (at + 1 + length (termNumbers t)) (markAll (termCells lower t) marks) (at-back tables (at + 1) (termNumbers t) (signedTerms e) rest) (omega arith))
+        (sum-walked e depth (at + 1 + length (termNumbers t)) (markAll (termCells lower t) marks)
+        (at-back tables (at + 1) (termNumbers t) (signedTerms e) rest) (omega arith))
     sum-walked (minus t e) depth at marks h room =
         let rest = at-first tables at 1 (termNumbers t ++ signedTerms e) h .after in
         let size = length-append (termNumbers t) (signedTerms e) in
         next-term 1 t e depth at marks h
         (term-walked t depth (at + 1) marks (at-front tables (at + 1) (termNumbers t) (signedTerms e) rest) (omega arith))
-        (sum-walked e depth (at + 1 + length (termNumbers t)) (markAll (termCells lower t) marks) (at-back tables (at + 1) (termNumbers t) (signedTerms e) rest) (omega arith))
+        (sum-walked e depth (at + 1 + length (termNumbers t)) (markAll (termCells lower t) marks)
+        (at-back tables (at + 1) (termNumbers t) (signedTerms e) rest) (omega arith))
 
   -- the two terms of a WAITIF: behind its kind, and behind the relation
   pub wait-walked : (kind relation : ℕ) (a b : Term) (depth at : ℕ) (marks : List ℕ)
-      → At tables at (kind ∷ (termNumbers a ++ (relation ∷ termNumbers b))) → length (termNumbers a) ≤ depth → length (termNumbers b) ≤ depth
+      → At tables at (kind ∷ (termNumbers a ++ (relation ∷ termNumbers b))) → length (termNumbers a) ≤ depth
+      → length (termNumbers b) ≤ depth
       → termsFrom tables (termFrom tables lower depth) 1 2 at marks .marks ≡ markAll (termCells lower a ++ termCells lower b) marks
   unfolding walked
   wait-walked kind relation a b depth at marks h roomA roomB =
-      let f = at-first tables at kind _ h in
-      let atA = at-front tables (at + 1) _ _ (f .after) in
-      let g = at-first tables _ relation _ (at-back tables _ (termNumbers a) _ (f .after)) in
-      let first = term-walked a depth _ marks atA roomA in
-      let second = term-walked b depth _ _ (g .after) roomB in
+      let f = at-first tables at kind (termNumbers a ++ (relation ∷ termNumbers b)) h in
+      let atA = at-front tables (at + 1) (termNumbers a) (relation ∷ termNumbers b) (f .after) in
+      let g = at-first tables (at + 1 + length (termNumbers a)) relation (termNumbers b)
+      (at-back tables (at + 1) (termNumbers a) (relation ∷ termNumbers b) (f .after)) in
+      let first = term-walked a depth (at + 1) marks atA roomA in
+      let second = term-walked b depth (at + 1 + length (termNumbers a) + 1) (markAll (termCells lower a) marks) (g .after) roomB in
       ap (λ (w : Walked). w .marks)
       (terms-more tables (termFrom tables lower depth) 1 at marks 2 (λ z. omega arith) (f .inside) _ _ (sym first)
-      ∙ terms-more tables (termFrom tables lower depth) 1 (at + 1 + length (termNumbers a)) (markAll (termCells lower a) marks) 1 (λ z. omega arith) (g .inside) _ _ (sym second)
+      ∙ terms-more tables (termFrom tables lower depth) 1 (at + 1 + length (termNumbers a)) (markAll (termCells lower a) marks) 1
+      (λ z. omega arith) (g .inside) _ _ (sym second)
       ∙ terms-none tables (termFrom tables lower depth) 1 _ _ 0 refl)
       ∙ sym (markAll-append (termCells lower a) (termCells lower b) marks)

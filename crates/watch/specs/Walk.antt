@@ -53,7 +53,8 @@ module _ (tables : List ℕ) where
   unfoldable pub termsFrom : (ℕ → List ℕ → Walked) → (skip left at : ℕ) → List ℕ → Walked
   termsFrom term skip zero at marks = walked at marks
   termsFrom term skip (suc left) at marks =
-      cond (ltb at (length tables)) (λ m. let t : Walked = term (at + skip) m in termsFrom term skip left (t .next) (t .marks)) (walked at) marks
+      cond (ltb at (length tables)) (λ m. let t : Walked = term (at + skip) m in termsFrom term skip left (t .next) (t .marks))
+      (walked at) marks
 
   module _ (lower : ℕ) where
     -- a term, given what reads the terms of a bracket: two of a comparison, with no sign before them, or those of a sum

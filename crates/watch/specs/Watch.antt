@@ -10,7 +10,8 @@ module _ (tables : List ℕ) where
   unfoldable pub reachValue : (k : ℕ) → List ℕ → List ℕ
   reachValue k marks =
       cond (eqb (getD marks (valueMarks + k) 0) 0) marks
-      (termsFrom tables (termFrom tables k Layout.valueWidth) 1 (getD tables (Layout.values + Layout.valueWidth * k) 0) (Layout.values + Layout.valueWidth * k + 1) marks .marks)
+      (termsFrom tables (termFrom tables k Layout.valueWidth) 1 (getD tables (Layout.values + Layout.valueWidth * k) 0)
+      (Layout.values + Layout.valueWidth * k + 1) marks .marks)
 
   -- the first so many values, the highest first, since they name lower ones
   unfoldable pub reach : ℕ → List ℕ → List ℕ

@@ -136,7 +136,8 @@ fn store_asked(tables: &mut [u32], marks: &[u32], blocks: usize)
 fn marks_of(tables: &[u32], marks: &mut [u32], blocks: usize, values: usize)
     requires { ⌜ blocks ≤ maxBlocks ⌝ }
     requires { ⌜ values ≤ maxValues ⌝ }
-    ensures { λ _. ⌜ now (marks .exit) ≡ reach (now (tables .entry)) values (waitsMarks (now (tables .entry)) values blocks (now (marks .entry))) ⌝ }
+    ensures { λ _. ⌜
+        now (marks .exit) ≡ reach (now (tables .entry)) values (waitsMarks (now (tables .entry)) values blocks (now (marks .entry))) ⌝ }
 {
     waits(tables, marks, values, blocks);
     reach(tables, marks, values);

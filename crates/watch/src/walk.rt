@@ -103,7 +103,9 @@ pub fn terms(
     at: usize,
 ) -> usize
     requires { ⌜ skip ≤ 1 ⌝ }
-    ensures { λ r. ⌜ walked r (now (marks .exit)) ≡ termsFrom (now (tables .entry)) (termFrom (now (tables .entry)) lower depth) skip left at (now (marks .entry)) ⌝ }
+    ensures { λ r. ⌜
+        walked r (now (marks .exit)) ≡ termsFrom (now (tables .entry))
+        (termFrom (now (tables .entry)) lower depth) skip left at (now (marks .entry)) ⌝ }
 {
     if left == 0 {
         return at;

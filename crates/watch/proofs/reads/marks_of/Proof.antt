@@ -2,5 +2,15 @@
 use Rattle.machine.specs.All.{_∙_, needs}
 use Rattle.watch.proofs.reads.marks_of as f
 
+returns : f.Tie.Need-returns
+returns c =
+    let at-reach : f.Tie.After-reach = search in
+    let at-waits : f.Tie.After-waits = search in
+    at-reach .reach .ensures ∙ rw (at-waits .waits .ensures)
+
 pub marks-of-spec : {M : Type 1} → f.Statement.statement M
-marks-of-spec = f.Tie.close (f.Tie.spec (search needs) (search needs) (search needs) (λ c. c .before .before .reach .ensures ∙ rw (c .before .before .before .before .before .before .waits .ensures)))
+marks-of-spec = f.Tie.close (f.Tie.spec
+    (search needs)
+    (search needs)
+    (search needs)
+    returns)

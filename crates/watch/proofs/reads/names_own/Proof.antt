@@ -3,6 +3,13 @@ use Rattle.machine.specs.All.{_∙_, needs}
 use Rattle.watch.specs.{ownOf}
 use Rattle.watch.proofs.reads.names_own as f
 
+returns : f.Tie.Need-returns
+unfolding ownOf
+returns c =
+    let at-reach : f.Tie.After-reach = search in
+    let at-store : f.Tie.After-store = search in
+    c .number .ensures ∙ rw (at-reach .reach .ensures, at-store .store .ensures)
+
 pub names-own-spec : {M : Type 1} → f.Statement.statement M
 names-own-spec =
     f.Tie.close
@@ -14,4 +21,4 @@ names-own-spec =
     (search needs)
     (search needs)
     (search needs)
-    (λ c. unfold ownOf in c .number .ensures ∙ rw (c .before .before .before .reach .ensures, c .before .before .before .before .before .before .store .ensures)))
+    returns)

@@ -3,11 +3,20 @@ use Rattle.machine.specs.All.{ap, eq-eqb, ne-eqb, needs}
 use Rattle.watch.specs.{Walked, walked, reachValue}
 use Rattle.watch.proofs.reads.reach_value as f
 
-returns-2 : f.Tie.Need-returns-2
+returns-number-is-0 : f.Tie.Need-returns
+unfolding reachValue
+returns-number-is-0 c =
+    rw (← c .before .number .ensures, eq-eqb _ 0 (c .if1 .taken))
+
+returns-last : f.Tie.Need-returns-2
 unfolding reachValue walked
-returns-2 c =
-    let b = c .before .before .before .before in
-    rw (← b .before .before .number .ensures, ne-eqb _ 0 (b .before .if1 .left), ← b .number2 .ensures) (ap (λ (w : Walked). w .marks) (c .before .before .terms .ensures))
+returns-last c =
+    let at-terms : f.Tie.After-terms = search in
+    let at-number2 : f.Tie.After-number2 = search in
+    let at-else1 : f.Tie.Else1 = search in
+    let at-number : f.Tie.After-number = search in
+    rw (← at-number .number .ensures, ne-eqb _ 0 (at-else1 .if1 .left), ← at-number2 .number2 .ensures)
+    (ap (λ (w : Walked). w .marks) (at-terms .terms .ensures))
 
 pub reach-value-spec : {M : Type 1} → f.Statement.statement M
 reach-value-spec =
@@ -16,11 +25,11 @@ reach-value-spec =
     (search needs)
     (search needs)
     (search needs)
-    (λ c. unfold reachValue in rw (← c .before .number .ensures, eq-eqb _ 0 (c .if1 .taken)))
+    returns-number-is-0
     (search needs)
     (search needs)
     (search needs)
     (search needs)
     (search needs)
     (search needs)
-    returns-2)
+    returns-last)

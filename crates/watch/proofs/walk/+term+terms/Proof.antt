@@ -64,13 +64,19 @@ term-same-length : (t : ℕ) → term-lts.Need-same-length (term-claims t) (term
 term-same-length t c = search needs
 
 term-returns-2 : (t : ℕ) → term-lts.Need-returns-2 (term-claims t) (term-at t) term.Post
-term-returns-2 t c = rw (c .before .before .mark .ensures) (sym (term-simple _ _ _ _ (c .before .before .before .before .before .before .before .if1 .left) _ _ (c .before .before .before .before .before .before .number .ensures) (c .before .before .before .before .before .number2 .ensures) _ (c .before .before .before .before .if2 .taken)))
+term-returns-2 t c =
+    rw (c .before .before .mark .ensures)
+    (sym (term-simple _ _ _ _ (c .before .before .before .before .before .before .before .if1 .left) _ _
+    (c .before .before .before .before .before .before .number .ensures) (c .before .before .before .before .before .number2 .ensures) _
+    (c .before .before .before .before .if2 .taken)))
 
 term-add-result-2 : (t : ℕ) → term-lts.Need-add-result-2 (term-claims t) (term-at t) term.Post
 term-add-result-2 t c = search needs
 
 term-returns-3 : (t : ℕ) → term-lts.Need-returns-3 (term-claims t) (term-at t) term.Post
-term-returns-3 t c = sym (term-deep _ _ _ _ (c .before .before .before .before .if1 .left) _ _ (c .before .before .before .number .ensures) (c .before .before .number2 .ensures) _ (c .if3 .taken) (c .before .if2 .left))
+term-returns-3 t c =
+    sym (term-deep _ _ _ _ (c .before .before .before .before .if1 .left) _ _ (c .before .before .before .number .ensures)
+    (c .before .before .number2 .ensures) _ (c .if3 .taken) (c .before .if2 .left))
 
 term-sub-terms : (t : ℕ) → term-lts.Need-sub-terms (term-claims t) (term-at t) term.Post
 term-sub-terms t c = search needs
@@ -85,7 +91,15 @@ term-same-length-2 : (t : ℕ) → term-lts.Need-same-length-2 (term-claims t) (
 term-same-length-2 t c = search needs
 
 term-returns-4 : (t : ℕ) → term-lts.Need-returns-4 (term-claims t) (term-at t) term.Post
-term-returns-4 t c = cc (c .before .before .terms .ensures, term-comparison _ _ _ _ (c .before .before .before .before .before .before .before .before .before .if1 .left) _ _ (c .before .before .before .before .before .before .before .before .number .ensures) (c .before .before .before .before .before .before .before .number2 .ensures) _ (c .before .before .before .before .before .if3 .left) (c .before .before .before .before .if4 .taken))
+term-returns-4 t c =
+    cc (
+      c .before .before .terms .ensures,
+      term-comparison _ _ _ _
+          (c .before .before .before .before .before .before .before .before .before .if1 .left) _ _
+          (c .before .before .before .before .before .before .before .before .number .ensures)
+          (c .before .before .before .before .before .before .before .number2 .ensures) _
+          (c .before .before .before .before .before .if3 .left) (c .before .before .before .before .if4 .taken),
+    )
 
 term-sub-terms-2 : (t : ℕ) → term-lts.Need-sub-terms-2 (term-claims t) (term-at t) term.Post
 term-sub-terms-2 t c = search needs
@@ -100,7 +114,16 @@ term-same-length-3 : (t : ℕ) → term-lts.Need-same-length-3 (term-claims t) (
 term-same-length-3 t c = search needs
 
 term-returns-5 : (t : ℕ) → term-lts.Need-returns-5 (term-claims t) (term-at t) term.Post
-term-returns-5 t c = cc (c .before .before .terms2 .ensures, term-bracket _ _ _ _ (c .before .before .before .before .before .before .before .before .before .if1 .left) _ _ (c .before .before .before .before .before .before .before .before .number .ensures) (c .before .before .before .before .before .before .before .number2 .ensures) _ (c .before .before .before .before .before .if3 .left) (c .before .before .before .before .before .before .if2 .left) (c .before .before .before .before .if4 .left))
+term-returns-5 t c =
+    cc (
+      c .before .before .terms2 .ensures,
+      term-bracket _ _ _ _
+          (c .before .before .before .before .before .before .before .before .before .if1 .left) _ _
+          (c .before .before .before .before .before .before .before .before .number .ensures)
+          (c .before .before .before .before .before .before .before .number2 .ensures) _
+          (c .before .before .before .before .before .if3 .left) (c .before .before .before .before .before .before .if2 .left)
+          (c .before .before .before .before .if4 .left),
+    )
 
 terms-returns : (t : ℕ) → terms-lts.Need-returns (terms-claims t) (terms-at t) terms.Post
 terms-returns t c = sym (terms-none _ _ _ _ _ _ (c .if1 .taken))
@@ -124,7 +147,14 @@ terms-same-length : (t : ℕ) → terms-lts.Need-same-length (terms-claims t) (t
 terms-same-length t c = search needs
 
 terms-returns-3 : (t : ℕ) → terms-lts.Need-returns-3 (terms-claims t) (terms-at t) terms.Post
-terms-returns-3 t c = cc (c .before .before .terms .ensures, terms-more _ _ _ _ _ _ (c .before .before .before .before .before .before .before .before .before .if1 .left) (c .before .before .before .before .before .before .before .before .if2 .left) _ _ (c .before .before .before .before .before .before .term .ensures))
+terms-returns-3 t c =
+    cc (
+      c .before .before .terms .ensures,
+      terms-more _ _ _ _ _ _
+          (c .before .before .before .before .before .before .before .before .before .if1 .left)
+          (c .before .before .before .before .before .before .before .before .if2 .left) _ _
+          (c .before .before .before .before .before .before .term .ensures),
+    )
 
 pub +term+terms-spec : {M : Type 1} → statement M
 +term+terms-spec = close μ-term μ-terms (λ t. term-lts.spec _
