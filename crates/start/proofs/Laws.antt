@@ -184,7 +184,7 @@ module _ (m : BlockModel) (tape : List (List ℕ)) (tapeBytes tables lists : Lis
 
       made : Stands tapeBytes (beginBlock tables tapeBytes r b) none (Moves.arrival (Moves.timesLeft s list) list p (suc b) s)
       unfolding Moves.arrival
-      made = go _ refl
+      made = go (Moves.timesLeft s list) refl
         where
           go : (l : List ℕ) → Moves.timesLeft s list ≡ l
               → Stands tapeBytes (beginBlock tables tapeBytes r b) none (Moves.arrival l list p (suc b) s)
