@@ -12,7 +12,8 @@ import pathlib
 import re
 import sys
 
-import machine
+sys.dont_write_bytecode = True
+import machine  # noqa: E402
 
 RESULTS = "refusal end clock turns made ended trace-bytes report-bytes".split()
 LENGTHS = "budget work-buffer trace-buffer report-buffer".split()
