@@ -14,17 +14,16 @@ def check_limits_told(values, ends, refusals):
     stream, records, parameters = values["streams.lastStream"], values["columns.maxRecords"], values["parameterCount"]
     says(root / "README.md", f"Clocks go up to {clock:,} and times to {time:,}")
     parts, draws = values["floats.timeParts"], values["floats.drawParts"]
-    check((0.875 * draws).is_integer() and not (0.9 * draws).is_integer(), "docs/TEXT.md: 0.875 is a multiple of u's part, 0.9 is none")
     says(
         docs / "TEXT.md",
         f"whole ticks from 0 to {time:,}",
         f"`p1` to `p{parameters}`",
         f"the clock itself below {bits + 1:,}",
         f"(0 to {values['tapes.mostTimes']:,})",
-        f"(0 to {stream})",
+        f"from a stream of its own, 1 to {stream}",
         f"MEAN at most {values['floats.maxMean']:,} |",
         f"{values['tapes.fewestPoints']} to {values['tapes.mostPoints']} points",
-        f"multiples of 1/{parts} ({1 / parts}) from 0 to {values['floats.maxTime']:,}, u multiples of 1/{draws:,}: 0.5 and 0.875 are, 0.9 is not",
+        f"multiples of 1/{parts} ({1 / parts}) from 0 to {values['floats.maxTime']:,}; u may be any decimal and is rounded to {draws:,}ths",
     )
     plain = dict(re.findall(r"const PLAIN_(\w+): \w+ = ([\d_]+);", (root / "command/src/commands/run.rs").read_text()))
     budget, room, file = (int(plain[name]) for name in ("BUDGET", "ROOM", "FILE"))
