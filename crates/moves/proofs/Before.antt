@@ -1,5 +1,5 @@
--- What holds before a block. The law of every kind takes this one argument, and says that its row definition leaves what the machine's block
--- does (`KIND-done`, `kindRows`).
+-- What holds before a block. The law of every kind takes this one argument, and says that its row definition leaves what the machine's
+-- block does (`KIND-done`, `kindRows`).
 use Rattle.machine.specs.All.{ℕ, _*_, _-_, _≡_, List, some, Transaction, Block, BlockModel, blockAt, State, question}
 use Rattle.machine.proofs.decoding.Proper.{Proper}
 use Rattle.layout.specs.All.{blockWidth, Represents}
@@ -17,7 +17,8 @@ abbrev pub bareBlock : BlockModel → Block → Transaction → State → Bare
 bareBlock m b t s = bareAnswer (question m b t s) m b t s
 
 -- t moves in state s and stands before block b; work buffer, tally and scalars stand for s
-pub record Before (m : BlockModel) (tape : List (List ℕ)) (tapeBytes tables lists w tally : List ℕ) (x : Scalars) (t : Transaction) (s : State) (b : Block) : Type 0 where
+pub record Before (m : BlockModel) (tape : List (List ℕ)) (tapeBytes tables lists w tally : List ℕ) (x : Scalars)
+    (t : Transaction) (s : State) (b : Block) : Type 0 where
   pub proper : Proper m tape
   pub rep : Represents m tape tapeBytes tables lists
   pub nested : Nested m

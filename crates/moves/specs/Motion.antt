@@ -25,7 +25,8 @@ next32 n = min (n + 1) most32
 unfoldable pub withOutcome : Scalars → ℕ → Scalars
 withOutcome x outcome =
     cond (eqb outcome 0) (putNote outcome x)
-    (cond (eqb outcome 1) (putNote outcome (putSerial (next32 (x .serial)) (putMoving rowCount x))) (putNote outcome (putMoving rowCount x)))
+    (cond (eqb outcome 1) (putNote outcome (putSerial (next32 (x .serial)) (putMoving rowCount x)))
+    (putNote outcome (putMoving rowCount x)))
 
 unfoldable pub goTo : List ℕ → Scalars → ℕ → Moved
 goTo w x block = moved (putNote 0 x) (setReturning (write w nextField (x .moving) block) (x .moving) 0)
@@ -49,7 +50,8 @@ putBack w x p edition = moved (putNote 2 (putMoving rowCount x)) (lineUp edition
 
 unfoldable pub beginWait : List ℕ → Scalars → (p edition : ℕ) → Moved
 beginWait w x p edition =
-    moved (putNote 1 (putSerial (next32 (x .serial)) (putMoving rowCount x))) (lineUp edition (write w serialField (x .moving) (next32 (x .serial))) p (x .moving))
+    moved (putNote 1 (putSerial (next32 (x .serial)) (putMoving rowCount x)))
+    (lineUp edition (write w serialField (x .moving) (next32 (x .serial))) p (x .moving))
 
 unfoldable pub waitOn : List ℕ → Scalars → (p edition : ℕ) → Moved
 waitOn w x p edition = cond (eqb (read w standingField (x .moving) % 2) 1) (putBack w x p edition) (beginWait w x p edition)

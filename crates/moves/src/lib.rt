@@ -99,7 +99,8 @@ fn row_begins_wait(work: &mut [u32], k: u32, serial: u32, p: u32, edition: u32)
     requires { ⌜ Room (now work) ⌝ }
     requires { ⌜ k < rowCount ⌝ }
     requires { ⌜ p < listCount ⌝ }
-    ensures { λ _. ⌜ ((x : Scalars) → x .moving ≡ k → x .serial ≡ serial → moved (withOutcome x 1) (now (work .exit)) ≡ beginWait (now (work .entry)) x p edition) ⌝ }
+    ensures { λ _. ⌜ ((x : Scalars) → x .moving ≡ k → x .serial ≡ serial
+        → moved (withOutcome x 1) (now (work .exit)) ≡ beginWait (now (work .entry)) x p edition) ⌝ }
 {
     write(work, SERIAL, k, plus32(serial, 1));
     line_up(work, p, k, edition);
@@ -122,7 +123,8 @@ pub fn row_waits(work: &mut [u32], k: u32, serial: u32, p: u32, edition: u32) ->
     requires { ⌜ Room (now work) ⌝ }
     requires { ⌜ k < rowCount ⌝ }
     requires { ⌜ p < listCount ⌝ }
-    ensures { λ r. ⌜ ((x : Scalars) → x .moving ≡ k → x .serial ≡ serial → moved (withOutcome x r) (now (work .exit)) ≡ waitOn (now (work .entry)) x p edition) ⌝ }
+    ensures { λ r. ⌜ ((x : Scalars) → x .moving ≡ k → x .serial ≡ serial
+        → moved (withOutcome x r) (now (work .exit)) ≡ waitOn (now (work .entry)) x p edition) ⌝ }
 {
     if read(work, STANDING, k) % 2 == 1 {
         line_up(work, p, k, edition);

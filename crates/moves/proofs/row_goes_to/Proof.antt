@@ -1,7 +1,15 @@
 -- `row_goes_to` meets its contract: the next block is written, the mark cleared.
 use Rattle.moves.specs.{withOutcome, goTo}
 use Rattle.machine.specs.All.{needs}
-use Rattle.moves.proofs.row_goes_to as f
+use Rattle.moves.proofs.row_goes_to.Statement.{statement}
+use Rattle.moves.proofs.row_goes_to.Tie as tie
 
-pub row-goes-to-spec : {M : Type 1} → f.Statement.statement M
-row-goes-to-spec = f.Tie.close (f.Tie.spec (search needs) (search needs) (search needs) (λ c. unfold withOutcome goTo in λ x e. rw (e, c .before .before .set-returning .ensures, c .before .before .before .before .before .before .write .ensures)))
+returns : tie.Need-returns
+unfolding withOutcome goTo
+returns c =
+    let at-set-returning : tie.After-set-returning = search in
+    let at-write : tie.After-write = search in
+    λ x e. rw (e, at-set-returning .set-returning .ensures, at-write .write .ensures)
+
+pub row-goes-to-spec : {M : Type 1} → statement M
+row-goes-to-spec = tie.close (tie.spec (search needs) (search needs) (search needs) returns)

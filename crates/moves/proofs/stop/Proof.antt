@@ -1,7 +1,12 @@
 -- `stop` meets its contract: two scalars are set.
 use Rattle.machine.specs.All.{refl}
 use Rattle.moves.specs.{stopped}
-use Rattle.moves.proofs.stop as f
+use Rattle.moves.proofs.stop.Statement.{statement}
+use Rattle.moves.proofs.stop.Tie as tie
 
-pub stop-spec : {M : Type 1} → f.Statement.statement M
-stop-spec = f.Tie.close (f.Tie.spec (λ c. unfold stopped in refl))
+returns : tie.Need-returns
+unfolding stopped
+returns c = refl
+
+pub stop-spec : {M : Type 1} → statement M
+stop-spec = tie.close (tie.spec returns)
