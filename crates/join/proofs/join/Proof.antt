@@ -6,38 +6,52 @@ use Rattle.machine.specs.All.{needs}
 
 pair-requires : f.Tie.Need-pair-requires
 pair-requires c κs =
-    let with =
-    c .before .before .before .before .before .before .before .before .before .before .before .before .before .before .before .before .before .before .before .before .before .before .args in
+    let at-b : f.Tie.After-b = search in
+    let at-decode2 : f.Tie.After-decode2 = search in
+    let at-a : f.Tie.After-a = search in
+    let at-decode : f.Tie.After-decode = search in
+    let start : f.Tie.Start = at-decode .before .before .before .before .before .before .before .before .before in
+    let with = start .args in
     pair-ready (with .model1 .now) (with .tape1 .now) (with .model2 .now) (with .tape2 .now) _ _ _
-    (c .before .before .before .before .before .before .before .before .before .before .before .before .before .decode .ensures) _
-    (c .before .before .before .before .before .before .before .before .before .before .before .a .given .1)
-    _ _ _ (c .before .before .before .before .before .before .before .decode2 .ensures) _
-    (c .before .before .before .before .before .b .given .1)
+    (at-decode .decode .ensures) _
+    (at-a .a .given .1)
+    _ _ _ (at-decode2 .decode2 .ensures) _
+    (at-b .b .given .1)
 
 returns : f.Tie.Need-returns
 returns c =
-    let with = c .before .before .before .before .before .before .before .before .before .before .before .before .args in
+    let at-decode : f.Tie.After-decode = search in
+    let start : f.Tie.Start = at-decode .before .before .before .before .before .before .before .before .before in
+    let with = start .args in
     first-refused (with .model1 .now) (with .tape1 .now) (with .model2 .now) (with .tape2 .now) _ _ _
-    (c .before .before .before .decode .ensures) (with .out-model .now) (with .out-tape .now) _ (c .before .n .given .1)
+    (at-decode .decode .ensures) (with .out-model .now) (with .out-tape .now) _ (c .before .n .given .1)
 
 returns-2 : f.Tie.Need-returns-2
 returns-2 c =
-    let with =
-    c .before .before .before .before .before .before .before .before .before .before .before .before .before .before .before .before .before .before .args in
+    let at-decode2 : f.Tie.After-decode2 = search in
+    let at-a : f.Tie.After-a = search in
+    let at-decode : f.Tie.After-decode = search in
+    let start : f.Tie.Start = at-decode .before .before .before .before .before .before .before .before .before in
+    let with = start .args in
     second-refused (with .model1 .now) (with .tape1 .now) (with .model2 .now) (with .tape2 .now) _ _ _
-    (c .before .before .before .before .before .before .before .before .before .decode .ensures) _
-    (c .before .before .before .before .before .before .before .a .given .1)
-    _ _ _ (c .before .before .before .decode2 .ensures) (with .out-model .now) (with .out-tape .now) _ (c .before .n2 .given .1)
+    (at-decode .decode .ensures) _
+    (at-a .a .given .1)
+    _ _ _ (at-decode2 .decode2 .ensures) (with .out-model .now) (with .out-tape .now) _ (c .before .n2 .given .1)
 
 returns-3 : f.Tie.Need-returns-3
 returns-3 c =
-    let with =
-    c .before .before .before .before .before .before .before .before .before .before .before .before .before .before .before .before .before .before .before .before .before .before .before .before .before .before .before .args in
+    let at-pair : f.Tie.After-pair = search in
+    let at-b : f.Tie.After-b = search in
+    let at-decode2 : f.Tie.After-decode2 = search in
+    let at-a : f.Tie.After-a = search in
+    let at-decode : f.Tie.After-decode = search in
+    let start : f.Tie.Start = at-decode .before .before .before .before .before .before .before .before .before in
+    let with = start .args in
     pair-done (with .model1 .now) (with .tape1 .now) (with .model2 .now) (with .tape2 .now) _ _ _
-    (c .before .before .before .before .before .before .before .before .before .before .before .before .before .before .before .before .before .before .decode .ensures) _ (c .before .before .before .before .before .before .before .before .before .before .before .before .before .before .before .before .a .given .1)
-    _ _ _ (c .before .before .before .before .before .before .before .before .before .before .before .before .decode2 .ensures) _
-    (c .before .before .before .before .before .before .before .before .before .before .b .given .1) (with .out-model .now)
-    (with .out-tape .now) _ _ _ (c .before .before .before .before .pair .ensures)
+    (at-decode .decode .ensures) _ (at-a .a .given .1)
+    _ _ _ (at-decode2 .decode2 .ensures) _
+    (at-b .b .given .1) (with .out-model .now)
+    (with .out-tape .now) _ _ _ (at-pair .pair .ensures)
 
 pub join-spec : {M : Type 1} → f.Statement.statement M
 join-spec =

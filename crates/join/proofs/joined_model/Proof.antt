@@ -7,22 +7,31 @@ use Rattle.join_laws.specs.Whole.{keptRoom}
 
 returns : f.Tie.Need-returns
 returns c =
-    model-left _ _ (c .before .before .before .before .before .before .before .args .out .now) _ _ (c .before .before .model .ensures)
-    (length-replicate {A = ℕ} keptRoom 0) (c .before .before .before .before .before .before .before .pre .1) (c .if1 .taken)
+    let at-model : f.Tie.After-model = search in
+    let start : f.Tie.Start = search in
+    model-left _ _ (start .args .out .now) _ _ (at-model .model .ensures)
+    (length-replicate {A = ℕ} keptRoom 0) (start .pre .1) (c .if1 .taken)
 
 copy-requires : f.Tie.Need-copy-requires
 copy-requires c κs =
-    copy-room _ _ (c .before .before .before .before .before .before .before .before .before .args .out .now) _ _
-    (c .before .before .before .before .model .ensures) (length-replicate {A = ℕ} keptRoom 0)
-    (c .before .before .before .before .before .before .before .before .before .pre .1) (c .before .before .if1 .left)
+    let at-else1 : f.Tie.Else1 = search in
+    let at-model : f.Tie.After-model = search in
+    let start : f.Tie.Start = search in
+    copy-room _ _ (start .args .out .now) _ _
+    (at-model .model .ensures) (length-replicate {A = ℕ} keptRoom 0)
+    (start .pre .1) (at-else1 .if1 .left)
 
 returns-2 : f.Tie.Need-returns-2
 returns-2 c =
+    let at-copy : f.Tie.After-copy = search in
+    let at-else1 : f.Tie.Else1 = search in
+    let at-model : f.Tie.After-model = search in
+    let start : f.Tie.Start = search in
     model-copied _ _
-    (c .before .before .before .before .before .before .before .before .before .before .before .before .args .out .now) _ _
-    (c .before .before .before .before .before .before .before .model .ensures) (length-replicate {A = ℕ} keptRoom 0)
-    (c .before .before .before .before .before .before .before .before .before .before .before .before .pre .1) _
-    (c .before .before .before .before .before .if1 .left) (c .before .before .copy .ensures)
+    (start .args .out .now) _ _
+    (at-model .model .ensures) (length-replicate {A = ℕ} keptRoom 0)
+    (start .pre .1) _
+    (at-else1 .if1 .left) (at-copy .copy .ensures)
 
 pub joined-model-spec : {M : Type 1} → f.Statement.statement M
 joined-model-spec =

@@ -14,11 +14,13 @@ loop-holds : f.Tie.Need-loop-holds Inv-loop μ-loop
 loop-holds c = (refl, omega arith, refl)
 
 loop-again : f.Tie.Need-loop-again Inv-loop μ-loop
-loop-again c = (
-  (search needs),
-  omega arith,
-  copy-step _ _ _ _ _ (omega (arith, c .before .loop-test .taken, c .before .before .before .pre .0)) (c .before .before .loop .inv .2),
-)
+loop-again c =
+    let at-loop : f.Tie.At-loop Inv-loop μ-loop = search in
+    let start : f.Tie.Start Inv-loop μ-loop = search in (
+      (search needs),
+      omega arith,
+      copy-step _ _ _ _ _ (omega (arith, c .before .loop-test .taken, start .pre .0)) (at-loop .loop .inv .2),
+    )
 
 same-length : f.Tie.Need-same-length Inv-loop μ-loop
 same-length c = c .before .loop .inv .0

@@ -6,25 +6,31 @@ use our.copying.end_to_end as f
 
 copy-requires : f.Tie.Need-copy-requires
 copy-requires c κs =
-    first-room (c .before .before .before .before .args .first .now) (c .before .before .before .before .args .second .now)
-    (c .before .before .before .before .args .out .now) (c .before .before .before .before .pre)
+    let start : f.Tie.Start = search in
+    first-room (start .args .first .now) (start .args .second .now)
+    (start .args .out .now) (start .pre)
 
 copy-requires-2 : f.Tie.Need-copy-requires-2
 copy-requires-2 c κs =
-    second-room (c .before .before .before .before .before .before .before .before .args .first .now)
-    (c .before .before .before .before .before .before .before .before .args .second .now)
-    (c .before .before .before .before .before .before .before .before .args .out .now)
-    (c .before .before .before .before .before .before .before .before .pre) _
-    (take (length (c .before .before .before .before .before .before .before .before .args .first .now))
-    (c .before .before .before .before .before .before .before .before .args .first .now)) (c .before .before .before .copy .ensures)
+    let at-copy : f.Tie.After-copy = search in
+    let start : f.Tie.Start = search in
+    second-room (start .args .first .now)
+    (start .args .second .now)
+    (start .args .out .now)
+    (start .pre) _
+    (take (length (start .args .first .now))
+    (start .args .first .now)) (at-copy .copy .ensures)
 
 returns : f.Tie.Need-returns
 returns c =
-    laid (c .before .before .before .before .before .before .before .before .before .before .before .args .first .now)
-    (c .before .before .before .before .before .before .before .before .before .before .before .args .second .now)
-    (c .before .before .before .before .before .before .before .before .before .before .before .args .out .now)
-    (c .before .before .before .before .before .before .before .before .before .before .before .pre) _ _
-    (c .before .before .before .before .before .before .copy .ensures) (c .before .before .copy2 .ensures)
+    let at-copy2 : f.Tie.After-copy2 = search in
+    let at-copy : f.Tie.After-copy = search in
+    let start : f.Tie.Start = search in
+    laid (start .args .first .now)
+    (start .args .second .now)
+    (start .args .out .now)
+    (start .pre) _ _
+    (at-copy .copy .ensures) (at-copy2 .copy2 .ensures)
 
 pub end-to-end-spec : {M : Type 1} → f.Statement.statement M
 end-to-end-spec = f.Tie.close (f.Tie.spec copy-requires copy-requires-2 (search needs) returns)

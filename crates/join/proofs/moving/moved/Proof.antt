@@ -17,11 +17,15 @@ returns-3 c = rw (c .before .match .keys3)
 
 returns-4 : f.Tie.Need-returns-4
 unfolding movedBy
-returns-4 c = rw (c .before .before .match .keys4, ← c .before .less .ensures)
+returns-4 c =
+    let at-match : f.Tie.At-match-keys4 = search in
+    rw (at-match .match .keys4, ← c .before .less .ensures)
 
 returns-5 : f.Tie.Need-returns-5
 unfolding movedBy
-returns-5 c = rw (c .before .before .match .keys5, ← c .before .less2 .ensures)
+returns-5 c =
+    let at-match : f.Tie.At-match-keys5 = search in
+    rw (at-match .match .keys5, ← c .before .less2 .ensures)
 
 returns-6 : f.Tie.Need-returns-6
 unfolding movedBy

@@ -5,11 +5,16 @@ use Rattle.join.proofs.nested.item as f
 
 returns : f.Tie.Need-returns
 returns c =
+    let at-emit2 : f.Tie.After-emit2 = search in
+    let at-number2 : f.Tie.After-number2 = search in
+    let at-emit : f.Tie.After-emit = search in
+    let at-number : f.Tie.After-number = search in
+    let at-sign : f.Tie.After-sign = search in
     item-whole _ _ _ _ _ _ _ _ _ _
-    (c .before .before .before .before .before .before .before .before .before .before .before .before .sign .ensures)
-    (c .before .before .before .before .before .before .before .before .before .number .ensures)
-    (c .before .before .before .before .before .before .before .emit .ensures) (c .before .before .before .number2 .ensures)
-    (c .before .before .emit2 .ensures)
+    (at-sign .sign .ensures)
+    (at-number .number .ensures)
+    (at-emit .emit .ensures) (at-number2 .number2 .ensures)
+    (at-emit2 .emit2 .ensures)
 
 pub item-spec : {M : Type 1} → f.Statement.statement M
 item-spec =

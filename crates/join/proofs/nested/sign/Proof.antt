@@ -8,8 +8,11 @@ returns c = sign-none _ _ _ _ _ (c .if1 .taken)
 
 returns-2 : f.Tie.Need-returns-2
 returns-2 c =
-    sign-one _ _ _ _ _ _ _ (c .before .before .before .before .before .if1 .left) (c .before .before .before .number .ensures)
-    (c .before .before .emit .ensures)
+    let at-emit : f.Tie.After-emit = search in
+    let at-number : f.Tie.After-number = search in
+    let at-else1 : f.Tie.Else1 = search in
+    sign-one _ _ _ _ _ _ _ (at-else1 .if1 .left) (at-number .number .ensures)
+    (at-emit .emit .ensures)
 
 pub sign-spec : {M : Type 1} → f.Statement.statement M
 sign-spec = f.Tie.close (f.Tie.spec returns (search needs) (search needs) (search needs) returns-2)

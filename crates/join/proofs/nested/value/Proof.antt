@@ -5,8 +5,11 @@ use Rattle.join.proofs.nested.value as f
 
 returns : f.Tie.Need-returns
 returns c =
-    value-whole _ _ _ _ _ _ _ _ (c .before .before .before .before .before .before .before .before .number .ensures)
-    (c .before .before .before .before .before .before .emit .ensures) (c .before .before .items .ensures)
+    let at-items : f.Tie.After-items = search in
+    let at-emit : f.Tie.After-emit = search in
+    let at-number : f.Tie.After-number = search in
+    value-whole _ _ _ _ _ _ _ _ (at-number .number .ensures)
+    (at-emit .emit .ensures) (at-items .items .ensures)
 
 pub value-spec : {M : Type 1} → f.Statement.statement M
 value-spec = f.Tie.close (f.Tie.spec (search needs) (search needs) (search needs) (search needs) (search needs) returns)

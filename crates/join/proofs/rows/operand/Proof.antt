@@ -11,10 +11,15 @@ role-requires c κs = omega (arith, c .before .if1 .left)
 
 returns-2 : f.Tie.Need-returns-2
 returns-2 c =
-    operand-one _ _ _ _ _ _ _ _ _ (c .before .before .before .before .before .before .before .if1 .left)
-    (c .before .before .before .before .before .before .number .ensures)
-    (c .before .before .before .before .before .role .ensures) (c .before .before .before .number2 .ensures)
-    (c .before .before .emit .ensures)
+    let at-emit : f.Tie.After-emit = search in
+    let at-number2 : f.Tie.After-number2 = search in
+    let at-role : f.Tie.After-role = search in
+    let at-number : f.Tie.After-number = search in
+    let at-else1 : f.Tie.Else1 = search in
+    operand-one _ _ _ _ _ _ _ _ _ (at-else1 .if1 .left)
+    (at-number .number .ensures)
+    (at-role .role .ensures) (at-number2 .number2 .ensures)
+    (at-emit .emit .ensures)
 
 pub operand-spec : {M : Type 1} → f.Statement.statement M
 operand-spec =

@@ -20,12 +20,15 @@ operand-requires : f.Tie.Need-operand-requires Inv-loop μ-loop
 operand-requires c κs = omega arith
 
 loop-again : f.Tie.Need-loop-again Inv-loop μ-loop
-loop-again c = (
-  (search needs),
-  omega arith,
-  operands-step _ _ _ _ _ _ _ _ _ (c .before .before .before .before .loop-test .taken)
-      (c .before .before .before .before .before .loop .inv .2) (c .before .before .operand .ensures),
-)
+loop-again c =
+    let at-operand : f.Tie.After-operand Inv-loop μ-loop = search in
+    let at-loop-test : f.Tie.In-loop Inv-loop μ-loop = search in
+    let at-loop : f.Tie.At-loop Inv-loop μ-loop = search in (
+      (search needs),
+      omega arith,
+      operands-step _ _ _ _ _ _ _ _ _ (at-loop-test .loop-test .taken)
+          (at-loop .loop .inv .2) (at-operand .operand .ensures),
+    )
 
 same-length : f.Tie.Need-same-length Inv-loop μ-loop
 same-length c = c .before .loop .inv .0

@@ -9,11 +9,15 @@ returns c = rw (eq-eqb _ 15 (c .if1 .taken))
 
 returns-2 : f.Tie.Need-returns-2
 unfolding roleOf
-returns-2 c = rw (ne-eqb _ 15 (c .before .before .if1 .left), eq-eqb _ 16 (c .before .if2 .taken), lt-ltb _ 2 (c .if3 .taken))
+returns-2 c =
+    let at-else1 : f.Tie.Else1 = search in
+    rw (ne-eqb _ 15 (at-else1 .if1 .left), eq-eqb _ 16 (c .before .if2 .taken), lt-ltb _ 2 (c .if3 .taken))
 
 returns-3 : f.Tie.Need-returns-3
 unfolding roleOf
-returns-3 c = rw (ne-eqb _ 15 (c .before .before .if1 .left), eq-eqb _ 16 (c .before .if2 .taken), le-ltb _ 2 (c .if3 .left))
+returns-3 c =
+    let at-else1 : f.Tie.Else1 = search in
+    rw (ne-eqb _ 15 (at-else1 .if1 .left), eq-eqb _ 16 (c .before .if2 .taken), le-ltb _ 2 (c .if3 .left))
 
 returns-4 : f.Tie.Need-returns-4
 unfolding roleOf

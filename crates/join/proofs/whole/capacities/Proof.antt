@@ -17,13 +17,17 @@ loop-holds : f.Tie.Need-loop-holds Inv-loop μ-loop
 loop-holds c = (refl, omega arith, cells-start _ _ _ _)
 
 loop-again : f.Tie.Need-loop-again Inv-loop μ-loop
-loop-again c = (
-  (search needs),
-  omega arith,
-  cells-step _ _ _ _ _ _ _ _ (c .before .before .before .before .before .loop-test .taken)
-      (c .before .before .before .before .before .before .loop .inv .2) (c .before .before .before .number .ensures)
-      (c .before .before .write-number .ensures),
-)
+loop-again c =
+    let at-write-number : f.Tie.After-write-number Inv-loop μ-loop = search in
+    let at-number : f.Tie.After-number Inv-loop μ-loop = search in
+    let at-loop-test : f.Tie.In-loop Inv-loop μ-loop = search in
+    let at-loop : f.Tie.At-loop Inv-loop μ-loop = search in (
+      (search needs),
+      omega arith,
+      cells-step _ _ _ _ _ _ _ _ (at-loop-test .loop-test .taken)
+          (at-loop .loop .inv .2) (at-number .number .ensures)
+          (at-write-number .write-number .ensures),
+    )
 
 same-length : f.Tie.Need-same-length Inv-loop μ-loop
 same-length c = c .before .loop .inv .0

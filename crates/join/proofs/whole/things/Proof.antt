@@ -5,13 +5,21 @@ use Rattle.join.proofs.whole.things as f
 
 values-requires-2 : f.Tie.Need-values-requires-2
 values-requires-2 c κs =
-    c .before .before .before .before .before .before .before .before .before .before .before .before .before .before .before .before .before .before .pre .1 .within .values
+    let start : f.Tie.Start =
+    c .before .before .before .before .before .before .before .before .before .before .before .before .before .before .before .before .before .before in
+    start .pre .1 .within .values
 
 returns : f.Tie.Need-returns
 returns c =
+    let at-values2 : f.Tie.After-values2 = search in
+    let at-second : f.Tie.After-second = search in
+    let at-values : f.Tie.After-values = search in
+    let at-first : f.Tie.After-first = search in
+    let at-both2 : f.Tie.After-both2 = search in
+    let at-both : f.Tie.After-both = search in
     things-whole _ _ _ _ _ _ _ _ _ _ _
-    (c .before .before .before .before .before .before .before .before .before .before .before .before .before .before .before .before .both .ensures) (c .before .before .before .before .before .before .before .before .before .before .before .before .both2 .ensures) (c .before .before .before .before .before .before .before .before .before .first .ensures) (c .before .before .before .before .before .before .before .values .ensures) (c .before .before .before .before .second .ensures)
-    (c .before .before .values2 .ensures)
+    (at-both .both .ensures) (at-both2 .both2 .ensures) (at-first .first .ensures) (at-values .values .ensures) (at-second .second .ensures)
+    (at-values2 .values2 .ensures)
 
 pub things-spec : {M : Type 1} → f.Statement.statement M
 things-spec =
