@@ -47,7 +47,8 @@ fn delay(work: &mut [u32], tally: &mut [u64], x: Scalars, sample: Sample, list: 
 fn advance_next(tape: &[u8], work: &mut [u32], tally: &mut [u64], x: Scalars, list: u32) -> Scalars
     requires { ⌜ Room (now work) ⌝ }
     requires { ⌜ x .moving < rowCount ⌝ }
-    ensures { λ r. ⌜ rowsOf r (now (work .exit)) (now (tally .exit)) ≡ advanceNext (now (tape .entry)) (now (work .entry)) (now (tally .entry)) x list ⌝ }
+    ensures { λ r. ⌜ rowsOf r (now (work .exit)) (now (tally .exit))
+        ≡ advanceNext (now (tape .entry)) (now (work .entry)) (now (tally .entry)) x list ⌝ }
 {
     let sample = next_sample(tape, tally, list);
     let end = ask_time(x, sample.time);
@@ -68,7 +69,8 @@ pub fn advance(
     requires { ⌜ Room (now work) ⌝ }
     requires { ⌜ x .moving < rowCount ⌝ }
     requires { ⌜ at < programSize ⌝ }
-    ensures { λ r. ⌜ rowsOf r (now (work .exit)) (now (tally .exit)) ≡ advanceRows (now (tables .entry)) (now (tape .entry)) (now (work .entry)) (now (tally .entry)) x at ⌝ }
+    ensures { λ r. ⌜ rowsOf r (now (work .exit)) (now (tally .exit))
+        ≡ advanceRows (now (tables .entry)) (now (tape .entry)) (now (work .entry)) (now (tally .entry)) x at ⌝ }
 {
     let list = number(tables, at + FIRST);
     if times_left(tally, list) == 0 {

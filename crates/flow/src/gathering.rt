@@ -159,7 +159,8 @@ pub fn assemble(
     requires { ⌜ Room (now work) ⌝ }
     requires { ⌜ x .moving < rowCount ⌝ }
     requires { ⌜ at < programSize ⌝ }
-    ensures { λ r. ⌜ moved r (now (work .exit)) ≡ assembleRows (now (tables .entry)) facilities (now (work .entry)) (now (tally .entry)) x at ⌝ }
+    ensures { λ r. ⌜ moved r (now (work .exit))
+        ≡ assembleRows (now (tables .entry)) facilities (now (work .entry)) (now (tally .entry)) x at ⌝ }
 {
     let n = number(tables, at + FIRST);
     let p = list_at(work, x.moving);

@@ -30,7 +30,8 @@ fn arrive_on(
 ) -> Scalars
     requires { ⌜ Room (now work) ⌝ }
     requires { ⌜ x .moving < rowCount ⌝ }
-    ensures { λ r. ⌜ rowsOf r (now (work .exit)) (now (tally .exit)) ≡ arriveOn (now (work .entry)) (now (tally .entry)) x sample list priority ⌝ }
+    ensures { λ r. ⌜ rowsOf r (now (work .exit)) (now (tally .exit))
+        ≡ arriveOn (now (work .entry)) (now (tally .entry)) x sample list priority ⌝ }
 {
     let block = read(work, NEXT, x.moving);
     let y = go_on(work, x);
@@ -58,7 +59,8 @@ fn generate_next(
 ) -> Scalars
     requires { ⌜ Room (now work) ⌝ }
     requires { ⌜ x .moving < rowCount ⌝ }
-    ensures { λ r. ⌜ rowsOf r (now (work .exit)) (now (tally .exit)) ≡ generateNext (now (tape .entry)) (now (work .entry)) (now (tally .entry)) x list priority ⌝ }
+    ensures { λ r. ⌜ rowsOf r (now (work .exit)) (now (tally .exit))
+        ≡ generateNext (now (tape .entry)) (now (work .entry)) (now (tally .entry)) x list priority ⌝ }
 {
     let sample = next_sample(tape, tally, list);
     let end = ask_arrival(x, sample.time);
@@ -79,7 +81,8 @@ pub fn generate(
     requires { ⌜ Room (now work) ⌝ }
     requires { ⌜ x .moving < rowCount ⌝ }
     requires { ⌜ at < programSize ⌝ }
-    ensures { λ r. ⌜ rowsOf r (now (work .exit)) (now (tally .exit)) ≡ generateRows (now (tables .entry)) (now (tape .entry)) (now (work .entry)) (now (tally .entry)) x at ⌝ }
+    ensures { λ r. ⌜ rowsOf r (now (work .exit)) (now (tally .exit))
+        ≡ generateRows (now (tables .entry)) (now (tape .entry)) (now (work .entry)) (now (tally .entry)) x at ⌝ }
 {
     let list = number(tables, at + FIRST);
     if times_left(tally, list) == 0 {

@@ -29,7 +29,8 @@ pub const PRIORITIES: u32 = Model::MAX_PRIORITY as u32 + 1;
 fn row_to_future(work: &mut [u32], serial: u32, k: u32, time: u64)
     requires { ⌜ Room (now work) ⌝ }
     requires { ⌜ k < rowCount ⌝ }
-    ensures { λ _. ⌜ ((x : Scalars) → x .serial ≡ serial → moved (putSerial (next32 (x .serial)) x) (now (work .exit)) ≡ toFuture (now (work .entry)) x k time) ⌝ }
+    ensures { λ _. ⌜ ((x : Scalars) → x .serial ≡ serial
+        → moved (putSerial (next32 (x .serial)) x) (now (work .exit)) ≡ toFuture (now (work .entry)) x k time) ⌝ }
 {
     write(work, SERIAL, k, plus32(serial, 1));
     set_time(work, k, time);
@@ -64,7 +65,8 @@ pub fn to_ready(work: &mut [u32], x: Scalars, k: u32) -> Scalars
 fn born_at(work: &mut [u32], made: u32, serial: u32, k: u32, time: u64, priority: u32, block: u32)
     requires { ⌜ Room (now work) ⌝ }
     requires { ⌜ k < rowCount ⌝ }
-    ensures { λ _. ⌜ ((x : Scalars) → x .made ≡ made → x .serial ≡ serial → moved (oneMade x true) (now (work .exit)) ≡ bornAt (now (work .entry)) x k time priority block) ⌝ }
+    ensures { λ _. ⌜ ((x : Scalars) → x .made ≡ made → x .serial ≡ serial
+        → moved (oneMade x true) (now (work .exit)) ≡ bornAt (now (work .entry)) x k time priority block) ⌝ }
 {
     newborn(work, k, plus32(made, 1), priority % PRIORITIES, block);
     row_to_future(work, serial, k, time);
@@ -73,7 +75,8 @@ fn born_at(work: &mut [u32], made: u32, serial: u32, k: u32, time: u64, priority
 // Answers whether there was a free row.
 fn born(work: &mut [u32], made: u32, serial: u32, time: u64, priority: u32, block: u32) -> bool
     requires { ⌜ Room (now work) ⌝ }
-    ensures { λ r. ⌜ ((x : Scalars) → x .made ≡ made → x .serial ≡ serial → moved (oneMade x r) (now (work .exit)) ≡ born (now (work .entry)) x time priority block) ⌝ }
+    ensures { λ r. ⌜ ((x : Scalars) → x .made ≡ made → x .serial ≡ serial
+        → moved (oneMade x r) (now (work .exit)) ≡ born (now (work .entry)) x time priority block) ⌝ }
 {
     let k = make_row(work);
     if k >= ROWS {
@@ -109,7 +112,9 @@ pub fn arrives(
     block: u32,
 ) -> bool
     requires { ⌜ Room (now work) ⌝ }
-    ensures { λ r. ⌜ ((x : Scalars) → x .made ≡ made → x .serial ≡ serial → x .clock ≡ clock → rowsOf (oneMade x r) (now (work .exit)) (now (tally .exit)) ≡ arrives (now (work .entry)) (now (tally .entry)) x sample list priority block) ⌝ }
+    ensures { λ r. ⌜ ((x : Scalars) → x .made ≡ made → x .serial ≡ serial → x .clock ≡ clock
+        → rowsOf (oneMade x r) (now (work .exit)) (now (tally .exit))
+        ≡ arrives (now (work .entry)) (now (tally .entry)) x sample list priority block) ⌝ }
 {
     let next = sample.next;
     use_time(tally, list, next);

@@ -53,7 +53,8 @@ pub fn terminate(
     requires { ⌜ Room (now work) ⌝ }
     requires { ⌜ x .moving < rowCount ⌝ }
     requires { ⌜ at < programSize ⌝ }
-    ensures { λ r. ⌜ moved r (now (work .exit)) ≡ terminateRows (now (tables .entry)) facilities (now (work .entry)) (now (tally .entry)) x at ⌝ }
+    ensures { λ r. ⌜ moved r (now (work .exit))
+        ≡ terminateRows (now (tables .entry)) facilities (now (work .entry)) (now (tally .entry)) x at ⌝ }
 {
     let a = number(tables, at + FIRST);
     let end = ask_holding(tally, facilities, read(work, NUMBER, x.moving) as u64);

@@ -74,7 +74,8 @@ fn take_over(
     requires { ⌜ x .moving < rowCount ⌝ }
     requires { ⌜ v < serverCount ⌝ }
     requires { ⌜ j < rowCount ⌝ }
-    ensures { λ r. ⌜ rowsOf r (now (work .exit)) (now (tally .exit)) ≡ takeOver (now (tables .entry)) (now (work .entry)) (now (tally .entry)) x v j number ⌝ }
+    ensures { λ r. ⌜ rowsOf r (now (work .exit)) (now (tally .exit))
+        ≡ takeOver (now (tables .entry)) (now (work .entry)) (now (tally .entry)) x v j number ⌝ }
 {
     let units = in_use(tally, v);
     let all = capacity(tables, v);
@@ -106,7 +107,8 @@ fn preempt_seized(
     requires { ⌜ Room (now work) ⌝ }
     requires { ⌜ x .moving < rowCount ⌝ }
     requires { ⌜ v < serverCount ⌝ }
-    ensures { λ r. ⌜ rowsOf r (now (work .exit)) (now (tally .exit)) ≡ preemptSeized (now (tables .entry)) (now (work .entry)) (now (tally .entry)) x v number ⌝ }
+    ensures { λ r. ⌜ rowsOf r (now (work .exit)) (now (tally .exit))
+        ≡ preemptSeized (now (tables .entry)) (now (work .entry)) (now (tally .entry)) x v number ⌝ }
 {
     let who = holder(tally, v);
     let j = find_loser(work, who, priority(work, x.moving), x.moving, v);
@@ -138,7 +140,8 @@ pub fn preempt(
     requires { ⌜ Room (now work) ⌝ }
     requires { ⌜ x .moving < rowCount ⌝ }
     requires { ⌜ at < programSize ⌝ }
-    ensures { λ r. ⌜ rowsOf r (now (work .exit)) (now (tally .exit)) ≡ preemptRows (now (tables .entry)) (now (work .entry)) (now (tally .entry)) x at ⌝ }
+    ensures { λ r. ⌜ rowsOf r (now (work .exit)) (now (tally .exit))
+        ≡ preemptRows (now (tables .entry)) (now (work .entry)) (now (tally .entry)) x at ⌝ }
 {
     let v = server_at(tables, at + FIRST);
     let number = read(work, NUMBER, x.moving) as u64;
@@ -213,7 +216,8 @@ fn resume(
     requires { ⌜ x .moving < rowCount ⌝ }
     requires { ⌜ v < serverCount ⌝ }
     requires { ⌜ j < rowCount ⌝ }
-    ensures { λ r. ⌜ rowsOf r (now (work .exit)) (now (tally .exit)) ≡ resumeRows (now (tables .entry)) (now (work .entry)) (now (tally .entry)) x v j ⌝ }
+    ensures { λ r. ⌜ rowsOf r (now (work .exit)) (now (tally .exit))
+        ≡ resumeRows (now (tables .entry)) (now (work .entry)) (now (tally .entry)) x v j ⌝ }
 {
     let units = in_use(tally, v);
     let all = capacity(tables, v);
@@ -228,7 +232,8 @@ fn give_back_now(tables: &[u32], work: &mut [u32], tally: &mut [u64], x: Scalars
     requires { ⌜ Room (now work) ⌝ }
     requires { ⌜ x .moving < rowCount ⌝ }
     requires { ⌜ v < serverCount ⌝ }
-    ensures { λ r. ⌜ rowsOf r (now (work .exit)) (now (tally .exit)) ≡ giveBackNow (now (tables .entry)) (now (work .entry)) (now (tally .entry)) x v ⌝ }
+    ensures { λ r. ⌜ rowsOf r (now (work .exit)) (now (tally .exit))
+        ≡ giveBackNow (now (tables .entry)) (now (work .entry)) (now (tally .entry)) x v ⌝ }
 {
     let j = first(work, INTERRUPTED + v);
     if j < ROWS {
@@ -249,7 +254,8 @@ pub fn give_back(
     requires { ⌜ Room (now work) ⌝ }
     requires { ⌜ x .moving < rowCount ⌝ }
     requires { ⌜ at < programSize ⌝ }
-    ensures { λ r. ⌜ rowsOf r (now (work .exit)) (now (tally .exit)) ≡ giveBackRows (now (tables .entry)) (now (work .entry)) (now (tally .entry)) x at ⌝ }
+    ensures { λ r. ⌜ rowsOf r (now (work .exit)) (now (tally .exit))
+        ≡ giveBackRows (now (tables .entry)) (now (work .entry)) (now (tally .entry)) x at ⌝ }
 {
     let v = server_at(tables, at + FIRST);
     let number = read(work, NUMBER, x.moving) as u64;

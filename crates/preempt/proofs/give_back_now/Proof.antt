@@ -1,28 +1,48 @@
 -- `give_back_now` meets its contract, by cases on the first of the facility's list.
 use Rattle.machine.specs.All.{refl, lt-ltb, le-ltb, needs}
 use Rattle.preempt_laws.specs.Preempting.{giveBackNow}
-use Rattle.preempt.proofs.give_back_now as f
+use Rattle.preempt.proofs.give_back_now.Statement.{statement}
+use Rattle.preempt.proofs.give_back_now.Tie as tie
 
-returns-2 : f.Tie.Need-returns-2
+to-loser : tie.Need-returns
 unfolding giveBackNow
-returns-2 c =
-    let b = c .before .before .before .before .before .before .before .before in
-    rw (c .with-outcome .ensures, ← b .before .before .before .before .first .ensures, le-ltb _ 1024 (b .before .before .before .if1 .left), ← b .before .in-use .ensures, ← b .less64 .ensures) (c .before .before .before .before .before .free-one .ensures _ refl refl)
+to-loser c =
+    let at-resume : tie.After-resume = search in
+    let at-then1 : tie.Then1 = search in
+    let at-first : tie.After-first = search in
+    rw (← at-first .first .ensures, lt-ltb _ 1024 (at-then1 .if1 .taken)) (at-resume .resume .ensures)
 
-pub give-back-now-spec : {M : Type 1} → f.Statement.statement M
+to-waiters : tie.Need-returns-2
+unfolding giveBackNow
+to-waiters c =
+    let at-free-one : tie.After-free-one = search in
+    let at-less64 : tie.After-less64 = search in
+    let at-in-use : tie.After-in-use = search in
+    let at-else1 : tie.Else1 = search in
+    let at-first : tie.After-first = search in
+    rw (
+      c .with-outcome .ensures,
+      ← at-first .first .ensures,
+      le-ltb _ 1024 (at-else1 .if1 .left),
+      ← at-in-use .in-use .ensures,
+      ← at-less64 .less64 .ensures,
+    )
+    (at-free-one .free-one .ensures _ refl refl)
+
+pub give-back-now-spec : {M : Type 1} → statement M
 give-back-now-spec =
-    f.Tie.close
-    (f.Tie.spec
+    tie.close
+    (tie.spec
     (search needs)
     (search needs)
     (search needs)
     (search needs)
     (search needs)
-    (λ c. let b = c .before .before .before .before in unfold giveBackNow in rw (← b .before .before .before .before .first .ensures, lt-ltb _ 1024 (b .before .before .before .if1 .taken)) (b .resume .ensures))
+    to-loser
     (search needs)
     (search needs)
     (search needs)
     (search needs)
     (search needs)
     (search needs)
-    returns-2)
+    to-waiters)

@@ -1,24 +1,37 @@
 -- `advance_next` meets its contract: by cases on the question.
 use Rattle.machine.specs.All.{eq-eqb, ne-eqb, needs}
 use Rattle.flow_laws.specs.Kinds.{advanceWith, advanceNext}
-use Rattle.flow.proofs.advancing.advance_next as f
+use Rattle.flow.proofs.advancing.advance_next.Statement.{statement}
+use Rattle.flow.proofs.advancing.advance_next.Tie as tie
 
-returns-2 : f.Tie.Need-returns-2
+stopped : tie.Need-returns
 unfolding advanceNext advanceWith
-returns-2 c =
-    let b = c .before .before .before .before .before .before .before in
-    rw (← b .before .before .next-sample .ensures, ← b .before .ask-time .ensures, eq-eqb _ 0 (b .if1 .left)) (c .before .before .before .before .delay .ensures)
+stopped c =
+    let at-then1 : tie.Then1 = search in
+    let at-ask-time : tie.After-ask-time = search in
+    let at-next-sample : tie.After-next-sample = search in
+    rw (← at-next-sample .next-sample .ensures, ← at-ask-time .ask-time .ensures, ne-eqb _ 0 (at-then1 .if1 .taken), c .stop .ensures)
 
-pub advance-next-spec : {M : Type 1} → f.Statement.statement M
+delayed : tie.Need-returns-2
+unfolding advanceNext advanceWith
+delayed c =
+    let at-delay : tie.After-delay = search in
+    let at-else1 : tie.Else1 = search in
+    let at-ask-time : tie.After-ask-time = search in
+    let at-next-sample : tie.After-next-sample = search in
+    rw (← at-next-sample .next-sample .ensures, ← at-ask-time .ask-time .ensures, eq-eqb _ 0 (at-else1 .if1 .left))
+    (at-delay .delay .ensures)
+
+pub advance-next-spec : {M : Type 1} → statement M
 advance-next-spec =
-    f.Tie.close
-    (f.Tie.spec
+    tie.close
+    (tie.spec
     (search needs)
     (search needs)
     (search needs)
     (search needs)
-    (λ c. unfold advanceNext advanceWith in rw (← c .before .before .before .next-sample .ensures, ← c .before .before .ask-time .ensures, ne-eqb _ 0 (c .before .if1 .taken), c .stop .ensures))
+    stopped
     (search needs)
     (search needs)
     (search needs)
-    returns-2)
+    delayed)

@@ -2,9 +2,16 @@
 use Rattle.moves.specs.Motion.{moved}
 use Rattle.flow_laws.specs.Kinds.{delayRows}
 use Rattle.machine.specs.All.{needs}
-use Rattle.flow.proofs.advancing.delay as f
+use Rattle.flow.proofs.advancing.delay.Statement.{statement}
+use Rattle.flow.proofs.advancing.delay.Tie as tie
 
-pub delay-spec : {M : Type 1} → f.Statement.statement M
-delay-spec =
-    f.Tie.close
-    (f.Tie.spec (search needs) (search needs) (search needs) (search needs) (search needs) (λ c. unfold delayRows moved in rw (← c .before .before .before .before .plus64 .ensures, ← c .before .before .before .before .before .before .before .use-time .ensures, ← c .before .before .send-on .ensures)))
+returns : tie.Need-returns
+unfolding delayRows moved
+returns c =
+    let at-send-on : tie.After-send-on = search in
+    let at-plus64 : tie.After-plus64 = search in
+    let at-use-time : tie.After-use-time = search in
+    rw (← at-plus64 .plus64 .ensures, ← at-use-time .use-time .ensures, ← at-send-on .send-on .ensures)
+
+pub delay-spec : {M : Type 1} → statement M
+delay-spec = tie.close (tie.spec (search needs) (search needs) (search needs) (search needs) (search needs) returns)

@@ -2,7 +2,15 @@
 use Rattle.moves.specs.Motion.{moved}
 use Rattle.flow_laws.specs.Kinds.{parked, sendOn}
 use Rattle.machine.specs.All.{needs}
-use Rattle.flow.proofs.advancing.send_on as f
+use Rattle.flow.proofs.advancing.send_on.Statement.{statement}
+use Rattle.flow.proofs.advancing.send_on.Tie as tie
 
-pub send-on-spec : {M : Type 1} → f.Statement.statement M
-send-on-spec = f.Tie.close (f.Tie.spec (search needs) (search needs) (search needs) (λ c. unfold sendOn parked moved in rw (← c .before .before .before .before .before .before .go-on .ensures, ← c .before .before .to-future .ensures)))
+returns : tie.Need-returns
+unfolding sendOn parked moved
+returns c =
+    let at-to-future : tie.After-to-future = search in
+    let at-go-on : tie.After-go-on = search in
+    rw (← at-go-on .go-on .ensures, ← at-to-future .to-future .ensures)
+
+pub send-on-spec : {M : Type 1} → statement M
+send-on-spec = tie.close (tie.spec (search needs) (search needs) (search needs) returns)

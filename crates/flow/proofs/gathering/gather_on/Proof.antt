@@ -1,7 +1,15 @@
 -- `gather_on` meets its contract: the count is written, then the wait begins.
 use Rattle.flow_laws.specs.Gathering.{gatherOn}
 use Rattle.machine.specs.All.{needs}
-use Rattle.flow.proofs.gathering.gather_on as f
+use Rattle.flow.proofs.gathering.gather_on.Statement.{statement}
+use Rattle.flow.proofs.gathering.gather_on.Tie as tie
 
-pub gather-on-spec : {M : Type 1} → f.Statement.statement M
-gather-on-spec = f.Tie.close (f.Tie.spec (search needs) (search needs) (search needs) (λ c. unfold gatherOn in rw (← c .before .before .before .before .before .before .write .ensures) (c .before .before .begin-wait .ensures)))
+returns : tie.Need-returns
+unfolding gatherOn
+returns c =
+    let at-begin-wait : tie.After-begin-wait = search in
+    let at-write : tie.After-write = search in
+    rw (← at-write .write .ensures) (at-begin-wait .begin-wait .ensures)
+
+pub gather-on-spec : {M : Type 1} → statement M
+gather-on-spec = tie.close (tie.spec (search needs) (search needs) (search needs) returns)

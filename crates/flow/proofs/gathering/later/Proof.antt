@@ -1,26 +1,47 @@
 -- `later` meets its contract: by cases on the question; then the count.
 use Rattle.machine.specs.All.{eq-eqb, ne-eqb, needs}
 use Rattle.flow_laws.specs.Gathering.{laterRows}
-use Rattle.flow.proofs.gathering.later as f
+use Rattle.flow.proofs.gathering.later.Statement.{statement}
+use Rattle.flow.proofs.gathering.later.Tie as tie
 
-returns-2 : f.Tie.Need-returns-2
+stopped : tie.Need-returns
 unfolding laterRows
-returns-2 c =
-    let b = c .before .before .before .before in
-    rw (← b .before .before .before .before .before .read .ensures, ← b .before .before .before .before .ask-holding .ensures, eq-eqb _ 0 (b .before .before .before .if1 .left), ← b .before .read2 .ensures, ← b .plus32 .ensures) (c .before .before .count-on .ensures)
+stopped c =
+    let at-then1 : tie.Then1 = search in
+    let at-ask-holding : tie.After-ask-holding = search in
+    let at-read : tie.After-read = search in
+    rw (← at-read .read .ensures, ← at-ask-holding .ask-holding .ensures, ne-eqb _ 0 (at-then1 .if1 .taken), c .stop .ensures)
 
-pub later-spec : {M : Type 1} → f.Statement.statement M
+counted : tie.Need-returns-2
+unfolding laterRows
+counted c =
+    let at-count-on : tie.After-count-on = search in
+    let at-plus32 : tie.After-plus32 = search in
+    let at-read2 : tie.After-read2 = search in
+    let at-else1 : tie.Else1 = search in
+    let at-ask-holding : tie.After-ask-holding = search in
+    let at-read : tie.After-read = search in
+    rw (
+      ← at-read .read .ensures,
+      ← at-ask-holding .ask-holding .ensures,
+      eq-eqb _ 0 (at-else1 .if1 .left),
+      ← at-read2 .read2 .ensures,
+      ← at-plus32 .plus32 .ensures,
+    )
+    (at-count-on .count-on .ensures)
+
+pub later-spec : {M : Type 1} → statement M
 later-spec =
-    f.Tie.close
-    (f.Tie.spec
+    tie.close
+    (tie.spec
     (search needs)
     (search needs)
     (search needs)
     (search needs)
     (search needs)
-    (λ c. unfold laterRows in rw (← c .before .before .before .read .ensures, ← c .before .before .ask-holding .ensures, ne-eqb _ 0 (c .before .if1 .taken), c .stop .ensures))
+    stopped
     (search needs)
     (search needs)
     (search needs)
     (search needs)
-    returns-2)
+    counted)

@@ -1,7 +1,12 @@
 -- `list_at` meets its contract: the block less one, behind the lists before it.
 use Rattle.machine.specs.All.{refl, arith, needs}
 use Rattle.flow_laws.specs.Gathering.{listAt}
-use Rattle.flow.proofs.gathering.list_at as f
+use Rattle.flow.proofs.gathering.list_at.Statement.{statement}
+use Rattle.flow.proofs.gathering.list_at.Tie as tie
 
-pub list-at-spec : {M : Type 1} → f.Statement.statement M
-list-at-spec = f.Tie.close (f.Tie.spec (search needs) (search needs) (search needs) (λ c. unfold listAt in (rw (← c .before .read .ensures, ← c .less32 .ensures) refl, omega arith)))
+returns : tie.Need-returns
+unfolding listAt
+returns c = (rw (← c .before .read .ensures, ← c .less32 .ensures) refl, omega arith)
+
+pub list-at-spec : {M : Type 1} → statement M
+list-at-spec = tie.close (tie.spec (search needs) (search needs) (search needs) returns)

@@ -2,22 +2,16 @@
 use Rattle.machine.specs.All.{refl, needs}
 use Rattle.moves.specs.Motion.{moved}
 use Rattle.flow_laws.specs.Kinds.{arriveOn}
-use Rattle.flow.proofs.generating.arrive_on as f
+use Rattle.flow.proofs.generating.arrive_on.Statement.{statement}
+use Rattle.flow.proofs.generating.arrive_on.Tie as tie
 
-returns : f.Tie.Need-returns
+returns : tie.Need-returns
 unfolding arriveOn moved
 returns c =
-    let b = c .before .before .before .before .before in
-    rw (c .one-made .ensures, ← b .before .before .before .before .before .before .before .read .ensures, ← b .before .before .before .before .before .go-on .ensures) (b .arrives .ensures _ refl refl refl)
+    let at-arrives : tie.After-arrives = search in
+    let at-go-on : tie.After-go-on = search in
+    let at-read : tie.After-read = search in
+    rw (c .one-made .ensures, ← at-read .read .ensures, ← at-go-on .go-on .ensures) (at-arrives .arrives .ensures _ refl refl refl)
 
-pub arrive-on-spec : {M : Type 1} → f.Statement.statement M
-arrive-on-spec =
-    f.Tie.close
-    (f.Tie.spec
-    (search needs)
-    (search needs)
-    (search needs)
-    (search needs)
-    (search needs)
-    (search needs)
-    returns)
+pub arrive-on-spec : {M : Type 1} → statement M
+arrive-on-spec = tie.close (tie.spec (search needs) (search needs) (search needs) (search needs) (search needs) (search needs) returns)

@@ -2,34 +2,44 @@
 use Rattle.machine.specs.All.{eq-eqb, ne-eqb, needs}
 use Rattle.moves.specs.Motion.{moved}
 use Rattle.flow_laws.specs.Kinds.{generateRows}
-use Rattle.flow.proofs.generating.generate as f
+use Rattle.flow.proofs.generating.generate.Statement.{statement}
+use Rattle.flow.proofs.generating.generate.Tie as tie
 
-returns : f.Tie.Need-returns
+list-used-up : tie.Need-returns
 unfolding generateRows moved
-returns c =
-    let b = c .before .before .before .before in
-    rw (← b .before .before .before .number .ensures, ← b .before .times-left .ensures, eq-eqb _ 0 (b .if1 .taken), ← c .before .before .go-on .ensures)
+list-used-up c =
+    let at-go-on : tie.After-go-on = search in
+    let at-then1 : tie.Then1 = search in
+    let at-times-left : tie.After-times-left = search in
+    let at-number : tie.After-number = search in
+    rw (← at-number .number .ensures, ← at-times-left .times-left .ensures, eq-eqb _ 0 (at-then1 .if1 .taken), ← at-go-on .go-on .ensures)
 
-returns-2 : f.Tie.Need-returns-2
+next-arrival : tie.Need-returns-2
 unfolding generateRows
-returns-2 c =
-    let b = c .before .before .before .before .before .before .before in
-    rw (← b .before .before .before .before .number .ensures, ← b .number2 .ensures, ← b .before .before .times-left .ensures, ne-eqb _ 0 (b .before .if1 .left)) (c .before .before .before .before .generate-next .ensures)
+next-arrival c =
+    let at-generate-next : tie.After-generate-next = search in
+    let at-number2 : tie.After-number2 = search in
+    let at-else1 : tie.Else1 = search in
+    let at-times-left : tie.After-times-left = search in
+    let at-number : tie.After-number = search in
+    rw
+    (← at-number .number .ensures, ← at-number2 .number2 .ensures, ← at-times-left .times-left .ensures, ne-eqb _ 0 (at-else1 .if1 .left))
+    (at-generate-next .generate-next .ensures)
 
-pub generate-spec : {M : Type 1} → f.Statement.statement M
+pub generate-spec : {M : Type 1} → statement M
 generate-spec =
-    f.Tie.close
-    (f.Tie.spec
+    tie.close
+    (tie.spec
     (search needs)
     (search needs)
     (search needs)
     (search needs)
     (search needs)
     (search needs)
-    returns
+    list-used-up
     (search needs)
     (search needs)
     (search needs)
     (search needs)
     (search needs)
-    returns-2)
+    next-arrival)

@@ -1,24 +1,37 @@
 -- `generate_next` meets its contract: by cases on the question.
 use Rattle.machine.specs.All.{eq-eqb, ne-eqb, needs}
 use Rattle.flow_laws.specs.Kinds.{generateWith, generateNext}
-use Rattle.flow.proofs.generating.generate_next as f
+use Rattle.flow.proofs.generating.generate_next.Statement.{statement}
+use Rattle.flow.proofs.generating.generate_next.Tie as tie
 
-returns-2 : f.Tie.Need-returns-2
+stopped : tie.Need-returns
 unfolding generateNext generateWith
-returns-2 c =
-    let b = c .before .before .before .before .before .before .before in
-    rw (← b .before .before .next-sample .ensures, ← b .before .ask-arrival .ensures, eq-eqb _ 0 (b .if1 .left)) (c .before .before .before .before .arrive-on .ensures)
+stopped c =
+    let at-then1 : tie.Then1 = search in
+    let at-ask-arrival : tie.After-ask-arrival = search in
+    let at-next-sample : tie.After-next-sample = search in
+    rw (← at-next-sample .next-sample .ensures, ← at-ask-arrival .ask-arrival .ensures, ne-eqb _ 0 (at-then1 .if1 .taken), c .stop .ensures)
 
-pub generate-next-spec : {M : Type 1} → f.Statement.statement M
+arrived : tie.Need-returns-2
+unfolding generateNext generateWith
+arrived c =
+    let at-arrive-on : tie.After-arrive-on = search in
+    let at-else1 : tie.Else1 = search in
+    let at-ask-arrival : tie.After-ask-arrival = search in
+    let at-next-sample : tie.After-next-sample = search in
+    rw (← at-next-sample .next-sample .ensures, ← at-ask-arrival .ask-arrival .ensures, eq-eqb _ 0 (at-else1 .if1 .left))
+    (at-arrive-on .arrive-on .ensures)
+
+pub generate-next-spec : {M : Type 1} → statement M
 generate-next-spec =
-    f.Tie.close
-    (f.Tie.spec
+    tie.close
+    (tie.spec
     (search needs)
     (search needs)
     (search needs)
     (search needs)
-    (λ c. unfold generateNext generateWith in rw (← c .before .before .before .next-sample .ensures, ← c .before .before .ask-arrival .ensures, ne-eqb _ 0 (c .before .if1 .taken), c .stop .ensures))
+    stopped
     (search needs)
     (search needs)
     (search needs)
-    returns-2)
+    arrived)

@@ -3,29 +3,33 @@
 use Rattle.machine.specs.All.{_-_, _≤_, _≡_, refl, sym, _∙_, arith, length}
 use Rattle.flow_laws.specs.Kinds.{copiesOf}
 use Rattle.flow_laws.proofs.Copies.{copies-begin, copies-end, copies-again, copy-moved}
-use Rattle.flow.proofs.splitting.copies as f
+use Rattle.flow.proofs.splitting.copies.Statement.{statement}
+use Rattle.flow.proofs.splitting.copies.Tie as tie
 
-abbrev Inv-loop : f.Tie.InvT-loop
-Inv-loop work₀ n target y₀ i₀ work y i = (copiesOf (n - i) work y target ≡ copiesOf n work₀ y₀ target) × ((i ≤ n) × ((length work ≡ length work₀) × (y .moving ≡ y₀ .moving)))
+abbrev Inv-loop : tie.InvT-loop
+Inv-loop work₀ n target y₀ i₀ work y i =
+    (copiesOf (n - i) work y target ≡ copiesOf n work₀ y₀ target) × ((i ≤ n) × ((length work ≡ length work₀) × (y .moving ≡ y₀ .moving)))
 
-abbrev μ-loop : f.Tie.MeasureT-loop
+abbrev μ-loop : tie.MeasureT-loop
 μ-loop work₀ n target y₀ i₀ work y i = n - i
 
-loop-again : f.Tie.Need-loop-again Inv-loop μ-loop
-loop-again c =
-    let b = c .before .before in
-    (copies-again _ _ _ _ _ (b .copy-one .ensures) _ _ (b .before .before .loop-test .taken) ∙ b .before .before .before .loop .inv .0, (omega arith, (omega (arith, b .copy-one .kept), copy-moved _ _ _ _ _ (b .copy-one .ensures) ∙ b .before .before .before .loop .inv .1 .1 .1)))
+loop-holds : tie.Need-loop-holds Inv-loop μ-loop
+loop-holds c = (copies-begin _ _ _ _, (omega arith, (refl, refl)))
 
-pub copies-spec : {M : Type 1} → f.Statement.statement M
-copies-spec =
-    f.Tie.close
-    (f.Tie.spec
-    Inv-loop
-    μ-loop
-    (λ c. (copies-begin _ _ _ _, (omega arith, (refl, refl))))
-    (omega arith)
-    (omega arith)
-    (omega arith)
-    loop-again
-    (omega arith)
-    (λ c. sym (copies-end _ _ _ _ (omega arith)) ∙ c .before .loop .inv .0))
+loop-again : tie.Need-loop-again Inv-loop μ-loop
+loop-again c =
+    let at-copy-one : tie.After-copy-one Inv-loop μ-loop = search in
+    let at-loop-test : tie.In-loop Inv-loop μ-loop = search in
+    let at-loop : tie.At-loop Inv-loop μ-loop = search in (
+      copies-again _ _ _ _ _ (at-copy-one .copy-one .ensures) _ _ (at-loop-test .loop-test .taken) ∙ at-loop .loop .inv .0,
+      (
+        omega arith,
+        (omega (arith, at-copy-one .copy-one .kept), copy-moved _ _ _ _ _ (at-copy-one .copy-one .ensures) ∙ at-loop .loop .inv .1 .1 .1),
+      ),
+    )
+
+returns : tie.Need-returns Inv-loop μ-loop
+returns c = sym (copies-end _ _ _ _ (omega arith)) ∙ c .before .loop .inv .0
+
+pub copies-spec : {M : Type 1} → statement M
+copies-spec = tie.close (tie.spec Inv-loop μ-loop loop-holds (omega arith) (omega arith) (omega arith) loop-again (omega arith) returns)

@@ -3,7 +3,20 @@ use Rattle.machine.specs.All.{arith, needs}
 use Rattle.moves.specs.Motion.{moved}
 use Rattle.flow_laws.specs.Kinds.{splitOn}
 use Rattle.flow_laws.proofs.Copies.{go-on-moved}
-use Rattle.flow.proofs.splitting.split_on as f
+use Rattle.flow.proofs.splitting.split_on.Statement.{statement}
+use Rattle.flow.proofs.splitting.split_on.Tie as tie
 
-pub split-on-spec : {M : Type 1} → f.Statement.statement M
-split-on-spec = f.Tie.close (f.Tie.spec (search needs) (λ c κs. omega (arith, go-on-moved _ _ _ _ (c .before .before .before .go-on .ensures))) (search needs) (λ c. unfold splitOn moved in rw (← c .before .before .before .before .before .before .go-on .ensures) (c .before .before .copies .ensures)))
+copies-requires : tie.Need-copies-requires
+copies-requires c κs =
+    let at-go-on : tie.After-go-on = search in
+    omega (arith, go-on-moved _ _ _ _ (at-go-on .go-on .ensures))
+
+returns : tie.Need-returns
+unfolding splitOn moved
+returns c =
+    let at-copies : tie.After-copies = search in
+    let at-go-on : tie.After-go-on = search in
+    rw (← at-go-on .go-on .ensures) (at-copies .copies .ensures)
+
+pub split-on-spec : {M : Type 1} → statement M
+split-on-spec = tie.close (tie.spec (search needs) copies-requires (search needs) returns)

@@ -1,6 +1,13 @@
 -- `end_after` meets its contract: by cases on the counter.
 use Rattle.machine.specs.All.{le-leb, lt-leb}
-use Rattle.flow.proofs.terminating.end_after as f
+use Rattle.flow.proofs.terminating.end_after.Statement.{statement}
+use Rattle.flow.proofs.terminating.end_after.Tie as tie
 
-pub end-after-spec : {M : Type 1} → f.Statement.statement M
-end-after-spec = f.Tie.close (f.Tie.spec (λ c. rw (le-leb _ _ (c .if1 .taken))) (λ c. rw (lt-leb _ _ (c .if1 .left))))
+counted : tie.Need-returns
+counted c = rw (le-leb _ _ (c .if1 .taken))
+
+goes-on : tie.Need-returns-2
+goes-on c = rw (lt-leb _ _ (c .if1 .left))
+
+pub end-after-spec : {M : Type 1} → statement M
+end-after-spec = tie.close (tie.spec counted goes-on)

@@ -1,18 +1,38 @@
 -- `terminate` meets its contract: by cases on the question; then the row and the scalars.
 use Rattle.machine.specs.All.{eq-eqb, ne-eqb, needs}
 use Rattle.flow_laws.specs.Kinds.{terminateRows}
-use Rattle.flow.proofs.terminating.terminate as f
+use Rattle.flow.proofs.terminating.terminate.Statement.{statement}
+use Rattle.flow.proofs.terminating.terminate.Tie as tie
 
-returns-2 : f.Tie.Need-returns-2
+stopped : tie.Need-returns
 unfolding terminateRows
-returns-2 c =
-    let b = c .before .before .before .before .before in
-    rw (← b .before .before .read .ensures, ← b .before .ask-holding .ensures, eq-eqb _ 0 (b .if1 .left), ← b .before .before .before .before .number .ensures, c .end-one .ensures, c .before .before .before .free-row .ensures)
+stopped c =
+    let at-then1 : tie.Then1 = search in
+    let at-ask-holding : tie.After-ask-holding = search in
+    let at-read : tie.After-read = search in
+    rw (← at-read .read .ensures, ← at-ask-holding .ask-holding .ensures, ne-eqb _ 0 (at-then1 .if1 .taken), c .stop .ensures)
 
-pub terminate-spec : {M : Type 1} → f.Statement.statement M
+ended : tie.Need-returns-2
+unfolding terminateRows
+ended c =
+    let at-free-row : tie.After-free-row = search in
+    let at-else1 : tie.Else1 = search in
+    let at-ask-holding : tie.After-ask-holding = search in
+    let at-read : tie.After-read = search in
+    let at-number : tie.After-number = search in
+    rw (
+      ← at-read .read .ensures,
+      ← at-ask-holding .ask-holding .ensures,
+      eq-eqb _ 0 (at-else1 .if1 .left),
+      ← at-number .number .ensures,
+      c .end-one .ensures,
+      at-free-row .free-row .ensures,
+    )
+
+pub terminate-spec : {M : Type 1} → statement M
 terminate-spec =
-    f.Tie.close
-    (f.Tie.spec
+    tie.close
+    (tie.spec
     (search needs)
     (search needs)
     (search needs)
@@ -20,8 +40,8 @@ terminate-spec =
     (search needs)
     (search needs)
     (search needs)
-    (λ c. unfold terminateRows in rw (← c .before .before .before .read .ensures, ← c .before .before .ask-holding .ensures, ne-eqb _ 0 (c .before .if1 .taken), c .stop .ensures))
+    stopped
     (search needs)
     (search needs)
     (search needs)
-    returns-2)
+    ended)
