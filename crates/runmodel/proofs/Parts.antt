@@ -14,4 +14,5 @@ module _ {model tape : List ℕ} {budget : ℕ} {work trace report work′ trace
   trace-part = begun (wanted model tape budget work trace report .trace) trace trace′ _ (told .results .trace-bytes) (told .trace-holds)
 
   pub report-part : Counts (r .«report_bytes») report′
-  report-part = begun (wanted model tape budget work trace report .report) report report′ _ (told .results .report-bytes) (told .report-holds)
+  report-part =
+      begun (wanted model tape budget work trace report .report) report report′ _ (told .results .report-bytes) (told .report-holds)

@@ -40,6 +40,7 @@ unfolding numeral
 numeral-nothing zero n at l e = (omega arith, refl)
 numeral-nothing (suc k) n at l e = absurd (omega arith)
 
+-- a number as digits: one digit,
 pub numeral-one : (k n at : ℕ) (l : List ℕ) → (k ≡ 0 → ⊥) → n < 10 → Stored l (set l at (48 + n)) at (at + 1) (numeral k n)
 numeral-one k n at l k-pos h = rw (numeral-digit k n k-pos h) (refl, refl)
 
@@ -48,16 +49,19 @@ more-byte : (l m text : List ℕ) (at next x : ℕ) → Stored l m at next text 
 more-byte l m text at next x (e, s) =
     (rw (e, length-append text (x ∷ [])) (omega arith), rw (s, e) (sets-append text (x ∷ []) l at))
 
+-- and those before the last
 pub numeral-more : (k n at next : ℕ) (l m : List ℕ) → (k ≡ 0 → ⊥) → 10 ≤ n → Stored l m at next (numeral (k - 1) (n / 10))
     → Stored l (set m next (48 + n % 10)) at (next + 1) (numeral k n)
 numeral-more k n at next l m k-pos h s = rw (numeral-digits k n k-pos h) (more-byte l m (numeral (k - 1) (n / 10)) at next (48 + n % 10) s)
 
 -- ---- Numbers in a row
 
+-- a space between numbers,
 pub behind-more : (l : List ℕ) (i : ℕ) → i + 1 < length l → 32 ≡ behind (drop (i + 1) l)
 unfolding behind
 behind-more l i h = rw (drop-cons l (i + 1) 0 h)
 
+-- a line's end behind the last
 pub behind-last : (l : List ℕ) (i : ℕ) → length l ≤ i + 1 → 10 ≡ behind (drop (i + 1) l)
 unfolding behind
 behind-last l i h = rw (drop-of-length-le l h)
@@ -93,7 +97,8 @@ pub numerals-more : (numbers : List ℕ) (i at next end : ℕ) (l m k : List ℕ
 numerals-more numbers i at next end l m k h s t =
     rw (numerals-step numbers i h)
     (joined l (set m next (behind (drop (i + 1) numbers))) k (numeral 20 (getD numbers i 0) ++ (behind (drop (i + 1) numbers) ∷ []))
-    (numerals (drop (i + 1) numbers)) at (next + 1) end (more-byte l m (numeral 20 (getD numbers i 0)) at next (behind (drop (i + 1) numbers)) s) t)
+    (numerals (drop (i + 1) numbers)) at (next + 1) end
+    (more-byte l m (numeral 20 (getD numbers i 0)) at next (behind (drop (i + 1) numbers)) s) t)
 
 -- ---- Letters, and the line
 
@@ -107,6 +112,7 @@ spell-more letters i l m h s =
     rw (drop-one letters i h) (s ∙ ap (λ (k : ℕ). sets (set l i (getD letters i 0)) k (drop (i + 1) letters)) e)
 
 module _ (letters numbers l m k : List ℕ) (end : ℕ) (room : length letters + 21 * length numbers ≤ 134) where
+  -- a word and its numbers are one line, of at most 134 bytes
   pub line-stored : m ≡ sets l 0 (drop 0 letters) → Stored m k (length letters) end (numerals (drop 0 numbers))
       → (end ≤ 134) × ((end ≡ length (line letters numbers)) × (k ≡ sets l 0 (line letters numbers)))
   unfolding line

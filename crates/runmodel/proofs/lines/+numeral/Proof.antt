@@ -56,7 +56,10 @@ numeral-numeral-requires : (t : ℕ) → numeral-lts.Need-numeral-requires (
   numeral-below t,
   numeral.Post,
 ) (numeral-at t) numeral.Post
-numeral-numeral-requires t c κs = (omega (arith, c .before .before .before .pre .0, pos-of-ne-zero (c .before .before .if1 .left)), omega (arith, c .before .before .before .pre .1))
+numeral-numeral-requires t c κs = (
+  omega (arith, c .before .before .before .pre .0, pos-of-ne-zero (c .before .before .if1 .left)),
+  omega (arith, c .before .before .before .pre .1),
+)
 
 numeral-cast-out-2 :
     (t : ℕ) →
@@ -72,7 +75,8 @@ numeral-element-write-out-2 : (t : ℕ) → numeral-lts.Need-element-write-out-2
   numeral-below t,
   numeral.Post,
 ) (numeral-at t) numeral.Post
-numeral-element-write-out-2 t c = omega (arith, c .before .before .before .before .pre .1, pos-of-ne-zero (c .before .before .before .if1 .left), c .numeral .ensures .0)
+numeral-element-write-out-2 t c =
+    omega (arith, c .before .before .before .before .pre .1, pos-of-ne-zero (c .before .before .before .if1 .left), c .numeral .ensures .0)
 
 numeral-add-result-2 :
     (t : ℕ) →

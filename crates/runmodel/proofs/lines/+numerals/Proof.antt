@@ -78,7 +78,8 @@ numerals-element-write-out : (t : ℕ) → numerals-lts.Need-element-write-out (
   numerals-below t,
   numerals.Post,
 ) (numerals-at t) numerals.Post
-numerals-element-write-out t c = omega (arith, simp length-drop at (c .before .before .before .before .before .before .pre .1), c .before .numeral .ensures .0)
+numerals-element-write-out t c =
+    omega (arith, simp length-drop at (c .before .before .before .before .before .before .pre .1), c .before .numeral .ensures .0)
 
 numerals-add-numerals : (t : ℕ) → numerals-lts.Need-add-numerals (
   numeral-reads.Asked,
@@ -88,7 +89,12 @@ numerals-add-numerals : (t : ℕ) → numerals-lts.Need-add-numerals (
   numerals-below t,
   numerals.Post,
 ) (numerals-at t) numerals.Post
-numerals-add-numerals t c = omega (arith, simp length-drop at (c .before .before .before .before .before .before .before .pre .1), c .before .before .numeral .ensures .0)
+numerals-add-numerals t c =
+    omega (
+      arith,
+      simp length-drop at (c .before .before .before .before .before .before .before .pre .1),
+      c .before .before .numeral .ensures .0,
+    )
 
 numerals-add-numerals-2 : (t : ℕ) → numerals-lts.Need-add-numerals-2 (
   numeral-reads.Asked,
@@ -108,7 +114,15 @@ numerals-numerals-requires : (t : ℕ) → numerals-lts.Need-numerals-requires (
   numerals-below t,
   numerals.Post,
 ) (numerals-at t) numerals.Post
-numerals-numerals-requires t c κs = (omega (arith, c .before .before .before .before .before .before .before .pre .0), simp length-drop (omega (arith, simp length-drop at (c .before .before .before .before .before .before .before .pre .1), c .before .before .numeral .ensures .0)))
+numerals-numerals-requires t c κs = (
+  omega (arith, c .before .before .before .before .before .before .before .pre .0),
+  simp length-drop
+      (omega (
+        arith,
+        simp length-drop at (c .before .before .before .before .before .before .before .pre .1),
+        c .before .before .numeral .ensures .0,
+      )),
+)
 
 numerals-returns-2 : (t : ℕ) → numerals-lts.Need-returns-2 (
   numeral-reads.Asked,
@@ -119,7 +133,8 @@ numerals-returns-2 : (t : ℕ) → numerals-lts.Need-returns-2 (
   numerals.Post,
 ) (numerals-at t) numerals.Post
 numerals-returns-2 t c = let e = c .before .before .before .numeral .ensures in
-    numerals-more _ _ _ _ _ _ _ _ (c .before .before .before .before .before .before .if1 .left) (e .1) (rw (← (c .before .before .behind .ensures)) (c .numerals .ensures))
+    numerals-more _ _ _ _ _ _ _ _ (c .before .before .before .before .before .before .if1 .left) (e .1)
+    (rw (← (c .before .before .behind .ensures)) (c .numerals .ensures))
 
 pub +numerals-spec : {M : Type 1} → statement M
 +numerals-spec = close μ-numerals λ t. numerals-lts.spec (

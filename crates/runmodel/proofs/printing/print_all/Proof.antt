@@ -8,6 +8,23 @@ Inv-loop report at letters things count numbers₀ next₀ k₀ numbers next k =
 abbrev μ-loop : f.Tie.MeasureT-loop
 μ-loop report at letters things count numbers₀ next₀ k₀ numbers next k = things - k
 
+array-share-prefix-numbers : f.Tie.Need-array-share-prefix-numbers Inv-loop μ-loop
+array-share-prefix-numbers c =
+    omega (arith, simp (length-sets, length-set) at (ap length (c .read-fields .ensures .1)))
+
+slice-aggregate-print-line : f.Tie.Need-slice-aggregate-print-line Inv-loop μ-loop
+slice-aggregate-print-line c =
+    sym (length-take-le _ _ (omega (arith, simp (length-sets, length-set) at (ap length (c .before .read-fields .ensures .1)))))
+
+print-line-requires : f.Tie.Need-print-line-requires Inv-loop μ-loop
+print-line-requires c κs =
+    simp length-take (omega (arith, simp (length-sets, length-set) at (ap length (c .before .read-fields .ensures .1))))
+
+loop-again : f.Tie.Need-loop-again Inv-loop μ-loop
+loop-again c =
+    let at-read-fields : f.Tie.After-read-fields Inv-loop μ-loop = search in
+    (omega arith, omega (arith, simp (length-sets, length-set) at (ap length (at-read-fields .read-fields .ensures .1))))
+
 pub print-all-spec : {M : Type 1} → f.Statement.statement M
 print-all-spec =
     f.Tie.close
@@ -19,10 +36,10 @@ print-all-spec =
     (search needs)
     (search needs)
     (search needs)
-    (λ c. omega (arith, simp (length-sets, length-set) at (ap length (c .read-fields .ensures .1))))
-    (λ c. sym (length-take-le _ _ (omega (arith, simp (length-sets, length-set) at (ap length (c .before .read-fields .ensures .1))))))
-    (λ c κs. simp length-take (omega (arith, simp (length-sets, length-set) at (ap length (c .before .read-fields .ensures .1)))))
+    array-share-prefix-numbers
+    slice-aggregate-print-line
+    print-line-requires
     (search needs)
     (search needs)
-    (λ c. (omega arith, omega (arith, simp (length-sets, length-set) at (ap length (c .before .before .before .read-fields .ensures .1)))))
+    loop-again
     (search needs))

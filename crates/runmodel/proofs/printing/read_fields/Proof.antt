@@ -25,7 +25,8 @@ loop-holds c = (
 
 loop-again : own.Tie.Need-loop-again Inv-loop μ-loop
 loop-again c =
-    let at = c .before .before .loop in (
+    let at-loop : own.Tie.At-loop Inv-loop μ-loop = search in
+    let at = at-loop .loop in (
       omega arith,
       search needs,
       behind-on _ _ _ _ _ _ (c .before .loop-test .taken) (ap (λ (f : Field). f .next) (c .number-at .ensures)) (at .inv .2),
