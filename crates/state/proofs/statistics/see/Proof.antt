@@ -3,13 +3,5 @@ use Rattle.state.specs.All.{see}
 use Rattle.machine.specs.All.{needs}
 use Rattle.state.proofs.statistics.see as f
 
-returns : f.Tie.Need-returns
-unfolding see
-returns c = rw (
-  c .before .before .set-count2 .ensures,
-  c .before .before .before .before .before .before .set-count .ensures,
-  c .before .before .before .before .before .before .before .before .count .ensures,
-)
-
 pub see-spec : {M : Type 1} → f.Statement.statement M
-see-spec = f.Tie.close (f.Tie.spec (search needs) (search needs) (search needs) (search needs) (search needs) (search needs) returns)
+see-spec = f.Tie.close (f.Tie.spec (search needs) (search needs) (search needs) (search needs) (search needs) (search needs) (λ c. unfold see in rw (c .before .before .set-count2 .ensures, c .before .before .before .before .before .before .set-count .ensures, c .before .before .before .before .before .before .before .before .count .ensures)))

@@ -3,15 +3,5 @@ use Rattle.state.specs.All.{updateServer}
 use Rattle.machine.specs.All.{needs}
 use Rattle.state.proofs.statistics.update_server as f
 
-returns : f.Tie.Need-returns
-unfolding updateServer
-returns c =
-    rw (← c .before .before .before .before .before .behind .ensures, c .before .before .before .before .if1 .taken)
-    (c .before .before .store-server .ensures)
-
-returns-2 : f.Tie.Need-returns-2
-unfolding updateServer
-returns-2 c = rw (← c .before .behind .ensures, c .if1 .left)
-
 pub update-server-spec : {M : Type 1} → f.Statement.statement M
-update-server-spec = f.Tie.close (f.Tie.spec (search needs) (search needs) (search needs) returns (search needs) returns-2)
+update-server-spec = f.Tie.close (f.Tie.spec (search needs) (search needs) (search needs) (λ c. unfold updateServer in rw (← c .before .before .before .before .before .behind .ensures, c .before .before .before .before .if1 .taken) (c .before .before .store-server .ensures)) (search needs) (λ c. unfold updateServer in rw (← c .before .behind .ensures, c .if1 .left)))
