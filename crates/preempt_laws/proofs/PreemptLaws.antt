@@ -19,7 +19,8 @@ use Rattle.moves.proofs.{Before.placeOf, Before.bareBlock, Before.Before, Motio
 use Rattle.moves.proofs.BeforeLaws.{next-low, serial-low, proper-block, operand, asked}
 use Rattle.moves.specs.Motion.{moved, next32}
 use Rattle.flow_laws.specs.{Sending.plus64, Sending.toFuture, Questions.askTime}
-use Rattle.flow_laws.proofs.{Asked.time-asked, Kin.those-none, Kin.those-first, Kin.replaced}
+use Rattle.machine.proofs.basic.Lists.{those-none}
+use Rattle.flow_laws.proofs.{Asked.time-asked, Kin.those-first, Kin.replaced}
 use Rattle.servers_laws.specs.{Units.inUse, Units.setUse, Taking.holdUnits, Taking.takeUnits, Freeing.freeOne}
 use Rattle.preempt_laws.specs.{seized, interruptOn, takeOver, preemptSeized, preemptRows, askResume, askGiveBack, resumeOn, resumeRows, giveBackNow, giveBackRows}
 use Rattle.servers_laws.proofs.{Named.named, TakingLaws.take-done, FreeingLaws.one-done}
