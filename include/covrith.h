@@ -1,7 +1,8 @@
 /* Covrith: one run of a block model on a tape, the records of its trace, traces by column, streams of random
  * numbers, tapes from distributions, and two models joined to one.
  *
- * Link target/staticlib/libcovrith.a, which `rt staticlib covrith` writes (x86-64 Linux).
+ * Link target/staticlib/libcovrith.a, which `rt staticlib covrith` writes (x86-64 Linux), or, after `make install`, what
+ * `pkg-config --cflags --libs covrith` names.
  *
  * For every function:
  * - a length counts elements of the type that its pointer points to;
@@ -19,6 +20,9 @@
 #ifdef __cplusplus
 extern "C" {
 #endif
+
+/* The version of this interface. */
+#define COVRITH_VERSION "1.0.0"
 
 /* What a run asks of its buffers. */
 #define COVRITH_WORK_NUMBERS 16384 /* 32-bit numbers in the work buffer, at least */

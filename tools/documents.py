@@ -7,7 +7,7 @@ root = pathlib.Path(__file__).resolve().parent.parent
 
 MANUAL = root / "docs/MANUAL.md"
 READING = root / "docs/READING.md"
-PAGES = [root / "README.md", *sorted(root.glob("docs/**/*.md")), root / "models/README.md", *sorted(root.glob("models/*/README.md"))]
+PAGES = [*sorted(root.glob("*.md")), *sorted(root.glob("docs/**/*.md")), root / "models/README.md", *sorted(root.glob("models/*/README.md"))]
 
 failures = []
 
