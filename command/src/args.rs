@@ -68,6 +68,14 @@ impl Args {
         values.find(|(n, _)| n == name).map(|(_, v)| v.as_os_str())
     }
 
+    /// The words behind an option that may stand several times.
+    pub fn values(&self, name: &str) -> Vec<String> {
+        let given = self.values.iter().filter(|(n, _)| n == name);
+        given
+            .map(|(_, v)| v.to_string_lossy().into_owned())
+            .collect()
+    }
+
     /// The number behind an option, if it was given.
     pub fn number(&self, name: &str) -> Done<Option<u64>> {
         self.value(name).map(|v| number(v, name)).transpose()

@@ -9,6 +9,7 @@ mod follow;
 mod join;
 mod list;
 mod run;
+mod study;
 mod tape;
 mod template;
 mod verify;
@@ -53,6 +54,7 @@ pub const COMMANDS: &[Command] = &[
     template::COMMAND,
     columns::COMMAND,
     tape::COMMAND,
+    study::COMMAND,
     join::COMMAND,
 ];
 

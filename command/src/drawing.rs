@@ -68,7 +68,7 @@ pub fn streams(path: &Path, lists: &[Drawn], tape: u64) -> Done<Vec<u32>> {
 }
 
 /// A refusal of the tape maker, told at each number that is outside the rules.
-fn refused(path: &Path, refusal: Refusal, lists: &[&Drawn]) -> Failure {
+pub fn refused(path: &Path, refusal: Refusal, lists: &[&Drawn]) -> Failure {
     let number = refusal.number();
     let faults: Vec<Fault> = match refusal {
         Refusal::NotDistribution => {
@@ -114,7 +114,7 @@ pub fn draw(path: &Path, lists: &[Drawn], streams: &[u32]) -> Done<Vec<Vec<u64>>
 }
 
 /// The lists of a tape that the engine wrote.
-fn times_of(tape: &[u8]) -> Done<Vec<Vec<u64>>> {
+pub fn times_of(tape: &[u8]) -> Done<Vec<Vec<u64>>> {
     let numbers = number::read_all(tape).map_err(Failure::new)?;
     let mut lists = Vec::new();
     let mut rest = &numbers[..];

@@ -21,7 +21,7 @@ pub fn page(
     from: &Path,
     text: &str,
     lists: &[Drawn],
-    streams: &[u32],
+    streams: &[String],
     tape: (&str, &[u8]),
 ) -> String {
     let from = from.file_name().unwrap_or_default().to_string_lossy();

@@ -29,6 +29,11 @@ pub fn cut_by_memory(lent: Lent, outcome: &Outcome) -> bool {
 impl Lent {
     /// The usual, where the options name nothing else.
     pub fn usual(budget: Option<u64>, room: Option<u64>) -> Lent {
+        Lent::shared(budget, room, 1)
+    }
+
+    /// The same for each of several runs at a time.
+    pub fn shared(budget: Option<u64>, room: Option<u64>, jobs: u64) -> Lent {
         let budget = budget.unwrap_or(BUDGET);
         if let Some(room) = room {
             return Lent {
@@ -37,7 +42,7 @@ impl Lent {
                 short: false,
             };
         }
-        let memory = available_memory().map_or(ROOM, |bytes| bytes / 4 * 3);
+        let memory = available_memory().map_or(ROOM, |bytes| bytes / 4 * 3 / jobs);
         let mut room = ROOM.min(memory);
         // the black box keeps the compiler from leaving out what it allocates and drops
         while room > RECORD_BYTES && std::hint::black_box(zeroed::<u8>(room)).is_none() {

@@ -9,6 +9,9 @@ pub const REFUSED: u8 = 1;
 /// Something cannot be judged, and nothing differs.
 pub const UNJUDGED: u8 = 3;
 
+/// Ctrl-C came, as a shell tells it.
+pub const INTERRUPTED: u8 = 130;
+
 #[derive(Clone, Debug, PartialEq, Eq)]
 pub struct Failure {
     pub status: u8,

@@ -211,6 +211,11 @@ pub fn facility(block: &Block) -> Option<u32> {
     number(block, 'f')
 }
 
+/// The storage that a block names.
+pub fn storage(block: &Block) -> Option<u32> {
+    number(block, 's')
+}
+
 pub fn walk(study: &Study, run: &Run) -> Walk {
     let blocks = study.decoded.blocks.len();
     let living = run.report.living.iter();

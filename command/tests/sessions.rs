@@ -100,3 +100,8 @@ fn joins() {
 fn usage() {
     session("usage");
 }
+
+#[test]
+fn studies() {
+    session("studies");
+}

@@ -10,6 +10,7 @@ pub mod reader;
 pub mod scan;
 pub mod shape;
 pub mod show;
+pub mod student;
 pub mod tape;
 pub mod words;
 

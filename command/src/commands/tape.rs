@@ -8,6 +8,7 @@ use crate::durable;
 use crate::failure::{Done, Failure};
 use crate::files;
 use crate::shown;
+use crate::slots::{self, Slots};
 use crate::table::Table;
 use modeltext::distribution::{Drawn, Form};
 use modeltext::fixed::root;
@@ -38,17 +39,25 @@ beside the tape keeps the text, the curves, the streams and the tape's SHA-256. 
 
   --stream N        tape N of this text: stream N for lists without a stream of their own, and for the others s + N x
                     (1 + the largest that the text names); 0 without it
+  --run R           the tape of run R of covrith study, whose lists have draws of their own: 7 + 20000 is stream 7 behind its
+                    first 20,000 draws
   --show            print what the engine draws from: each list as a fixed time, a spread or a curve
   --replace         write over TAPE where it is a regular file
 ",
     flags: &["--replace", "--show"],
-    valued: &["--stream"],
+    valued: &["--stream", "--run"],
     run: tape,
 };
 
 fn tape(args: &Args, out: &mut dyn Write) -> Done<()> {
     let [from, to] = args.paths("a text of distributions and the tape to write")?;
-    let number = args.number("--stream")?.unwrap_or(0);
+    let (number, run) = (args.number("--stream")?, args.number("--run")?);
+    if number.is_some() && run.is_some() {
+        return Err(Failure::usage("--stream and --run do not go together"));
+    }
+    if run == Some(0) {
+        return Err(Failure::usage("--run counts runs from 1"));
+    }
     let text = files::read_text(from)?;
     let lists = drawing::read(from, &text)?;
     let last = Position::at(text.lines().count().max(1), 1);
@@ -56,10 +65,11 @@ fn tape(args: &Args, out: &mut dyn Write) -> Done<()> {
     if !mismatches.is_empty() {
         return Err(Failure::new(drawing::told(from, &mismatches).join("\n")));
     }
-    let streams = drawing::streams(from, &lists, number)?;
-    let times = drawing::draw(from, &lists, &streams)?;
+    let (streams, times, notes) = match run {
+        Some(run) => of_run(from, &lists, run)?,
+        None => of_streams(from, &lists, number.unwrap_or(0))?,
+    };
     let bytes = drawing::bytes(&times);
-    let notes = drawing::notes(&lists, &streams, &times);
     if to == Path::new("-") {
         tell(&notes);
         return write_chosen(to, &bytes, false, out);
@@ -89,6 +99,28 @@ fn tape(args: &Args, out: &mut dyn Write) -> Done<()> {
             .try_for_each(|list| say_lines(out, &list.resolved()))?;
     }
     Ok(())
+}
+
+/// Where each list draws from, its times, and what is to be said of them.
+type Times = (Vec<String>, Vec<Vec<u64>>, Vec<String>);
+
+fn of_streams(from: &Path, lists: &[Drawn], number: u64) -> Done<Times> {
+    let streams = drawing::streams(from, lists, number)?;
+    let times = drawing::draw(from, lists, &streams)?;
+    let notes = drawing::notes(lists, &streams, &times);
+    let shown = streams.iter().map(|stream| stream.to_string()).collect();
+    Ok((shown, times, notes))
+}
+
+/// The same for a run of a study.
+fn of_run(from: &Path, lists: &[Drawn], run: u64) -> Done<Times> {
+    let slots = Slots::of(lists);
+    slots.refuse(from, run)?;
+    let slots = slots.of_run(run);
+    let times = slots::draw(from, lists, &slots)?;
+    let notes = lists.iter().flat_map(|list| list.notes.clone()).collect();
+    let shown = slots.iter().map(|slot| slot.to_string()).collect();
+    Ok((shown, times, notes))
 }
 
 /// A page that speaks of another tape of the folder is not written over.
@@ -124,14 +156,14 @@ fn against_model(lists: &[Drawn], last: Position, tape: &Path) -> Vec<Fault> {
 }
 
 /// For each list what was asked for, what the form has that the engine draws from, and what was drawn.
-fn figures(lists: &[Drawn], streams: &[u32], times: &[Vec<u64>]) -> Table {
+fn figures(lists: &[Drawn], streams: &[String], times: &[Vec<u64>]) -> Table {
     let mut table = Table::new(&[
         "list", ">times", ">stream", "", ">mean", ">sd", ">least", ">most",
     ]);
     for ((list, stream), drawn) in lists.iter().zip(streams).zip(times) {
         let stream = match list.form {
             Form::Fixed(_) => "-".to_string(),
-            _ => stream.to_string(),
+            _ => stream.clone(),
         };
         let front = [list.name.clone(), list.count.to_string(), stream];
         let whole: Vec<u64> = list.form.times().iter().map(|t| t * list.factor).collect();
