@@ -80,7 +80,7 @@ fn help() -> String {
   covrith --version                          versions of the engine, its library and the kit that proved it
 
 A FOLDER has a model and a tape, each as text (model.txt, tape.txt; docs/TEXT.md), as bytes (model.bin, tape.bin) or both.
-Exit status: 0 success; 1 refused, stopped, differs or cannot be done; 2 wrong usage; 3 cannot be judged (verify).
+Exit status: 0 success; 1 refused, stopped, differs or cannot be done; 2 wrong usage; 3 cannot be judged (verify); 130 interrupted.
 Errors go to standard error.
 ",
     );

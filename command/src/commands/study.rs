@@ -30,10 +30,10 @@ stopped (ends 21 to 28) are counted and left out, and give status 1.
 
   --runs N          so many runs, 2 at least (without it 30)
   --first R         begin with run R (without it 1): other runs draw other times
-  --until P%        from ten runs on, end as soon as the half-width of each --measure is below this part of its mean; --runs
-                    is the most, and where that is not enough the status is 1
+  --until P         from ten runs on, end as soon as the half-width of each --measure is below P percent of its mean (5%);
+                    --runs is the most, and where that is not enough the status is 1
   --measure NAME    a measure for --until, named as the table has it: clerk.mean-wait; may be given several times
-  --confidence P%   how sure intervals are, 50 to 99.9 (without it 95)
+  --confidence P    how sure intervals are in percent, 50 to 99.9 (without it 95%)
   --jobs N          at most N at a time (without it as many as the machine has cores)
 ",
     flags: &[],
