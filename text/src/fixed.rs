@@ -1,5 +1,5 @@
 //! Whole-number arithmetic for curves: numbers are multiples of 2^-56, every operation rounds down, and nothing depends on the machine.
-//! `python/covrith_curves.py` has the same functions, and `tools/check-distributions` compares what both give.
+//! `python/covrith/distributions.py` has the same functions, and `tools/check-distributions` compares what both give.
 
 /// 1.
 pub const ONE: i128 = 1 << BITS;

@@ -1,5 +1,5 @@
 //! Distributions by name, each turned into a curve that the engine draws from. Whole numbers only: the same curve on every machine.
-//! `docs/DISTRIBUTIONS.md` has the algorithm, `python/covrith_curves.py` the same in Python.
+//! `docs/DISTRIBUTIONS.md` has the algorithm, `python/covrith/distributions.py` the same in Python.
 
 use crate::fixed::{
     div, exp, gamma, ln, lower_gamma, mul, normal_below, normal_density, reaches, root, BITS, ONE,
