@@ -1,7 +1,8 @@
 -- The outcome: what `run` promises of a refused run that touches nothing, and of an accepted one from what stands for the last
 -- state of the machine's run.
 use Rattle.machine.specs.All.{clash, ℕ, _≤_, _≡_, refl, sym, ap, _∙_, subst, Bool, true, false, cond, List, leb-true, leb, length, take, take-at, inForce, workNumbers, reportRoom, maxReportNumber, traceBytes, BlockModel, State, Validation, accept, reject, validate, run, reportNumbers, reportBytes, Each, LivingListed, Outcome, recordsOf, acceptedRun, refusedRun, outcomeOf, outcome, _++_, drop}
-use Rattle.machine.proofs.{decoding.Proper.Proper, decoding.ProperFrom.proper-from, conservation.LivingListed.living-listed, Demand3.demand3, runs.OutcomeLaws.outcome-keeps}
+use Rattle.machine.proofs.runs.Prefix.{prefix, states-are-runs}
+use Rattle.machine.proofs.{decoding.Proper.Proper, decoding.ProperFrom.proper-from, decoding.ProperFrom.rules-from, conservation.LivingListed.living-listed, Demand3.demand3, runs.OutcomeLaws.outcome-keeps}
 use Rattle.layout.specs.All.{headerOf, Represents}
 use Rattle.state.specs.All.{Rows, Stands}
 use Rattle.state.proofs.Written.{Kept}
@@ -122,6 +123,7 @@ module _ (model tape : List ℕ) (budget : ℕ) (work trace report : List ℕ) w
           → Accepted m′ times′ budget (length trace) (take (r .scalars .used) trace′)
       all m′ times′ h′ e f =
           record {
+            rules = rules-from inForce model tape (length work) (length report) h′;
             demand3 = demand3 inForce model tape _ _ budget _ h′;
             report-small =
                 subst (λ (x : BlockModel). Each (λ (k : ℕ). k ≤ maxReportNumber) (reportNumbers x (run x times′ budget (length trace)))) e
@@ -132,6 +134,8 @@ module _ (model tape : List ℕ) (budget : ℕ) (work trace report : List ℕ) w
             living =
                 rw e at (subst (λ (x : List (List ℕ)). LivingListed m x (run m x budget (length trace))) f
                 (living-listed s (kept .sure .sound)));
+            prefix = prefix m′ times′ budget (length trace);
+            every-state = states-are-runs m′ budget (length trace) times′;
           }
 
       -- an accepted run: trace, report and eight numbers are those of the machine's last state

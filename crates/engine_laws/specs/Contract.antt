@@ -1,8 +1,10 @@
 -- What `run` promises, for all bytes, budgets and buffer lengths: the machine's outcome, its trace and report in the buffers,
--- nothing touched by a refused run, demand 3 of the whole run, a trace that reads back, and the living by rising number.
+-- nothing touched by a refused run, the rules, demand 3 of the whole run, a trace that reads back, the living by rising number, and what
+-- a shorter run has in common with a longer one.
 --
 -- Left free by the papers: the work buffer after an accepted run, of which nothing is said (a lent slice keeps its length).
-use Rattle.machine.specs.All.{ℕ, _≤_, _≡_, List, _++_, length, take, drop, inForce, maxReportNumber, Record, traceBytes, BlockModel, accept, validate, run, reportNumbers, Outcome, recordsOf, outcome, Each, Proved, Keeping, InModel, LivingListed}
+use Rattle.machine.specs.All.{ℕ, _≤_, _≡_, List, _++_, length, take, drop, true, Rules, inForce, maxReportNumber, Record, traceBytes, BlockModel, accept, validate, run, reportNumbers, Outcome, recordsOf, outcome, Each, Proved, Keeping, InModel, LivingListed}
+use Rattle.machine.specs.Prefix.{Prefix, StatesAreRuns}
 use Rattle.trace.specs.Whole.{Reads}
 use Rattle.engine_laws.specs.declared.outcome.Outcome.{Outcome as Results}
 
@@ -28,8 +30,14 @@ pub record ReadsBack (m : BlockModel) (bytes : List ℕ) (records : List Record)
   pub reads : Reads bytes 0 records
   pub written-again : (l : List Record) → Reads bytes 0 l → traceBytes l ≡ bytes
 
+-- document 01 with all requests of document 02
+abbrev pub rulesInForce : Rules
+rulesInForce = record { maxClock = 32000000000; maxTime = 10000000000; maxNumber = 34359738367; holders = true; kinds = 20; editions = 2 }
+
 -- of an accepted run, with what its trace buffer begins with
 pub record Accepted (m : BlockModel) (times : List (List ℕ)) (budget room : ℕ) (bytes : List ℕ) : Type 0 where
+  -- the rules by which the machine runs it
+  pub rules : m .rules ≡ rulesInForce
   -- demand 3, of the start, of what each turn left and of the last state; the bounds on turns and the stated end
   pub demand3 : Proved m times budget room
   -- no number of the report is cut: each fits nine groups
@@ -37,6 +45,11 @@ pub record Accepted (m : BlockModel) (times : List (List ℕ)) (budget room : �
   pub read-back : ReadsBack m bytes (recordsOf (run m times budget room))
   -- the report's living part: by rising number, each a living one, each with its place
   pub living : LivingListed m times (run m times budget room)
+  -- beside the run with any other budget and trace length: the records of one begin those of the other, and a run that ended by neither
+  -- 3 nor 4 is that of every larger budget and trace
+  pub prefix : (budget′ room′ : ℕ) → Prefix m times budget room budget′ room′
+  -- so that what is said here of the last state, for every budget, is said of every state but for its end
+  pub every-state : StatesAreRuns m times budget room
 
 module _ (model tape : List ℕ) (budget : ℕ) (work trace report : List ℕ) where
   abbrev pub wanted : Outcome
