@@ -135,6 +135,21 @@ fn each_run_can_be_repeated() {
     assert_eq!(cells[6], clocks.iter().max().unwrap().to_string());
 }
 
+/// Waits until a process has a handler for SIGINT, as Linux tells it: before that an interrupt would end it.
+fn until_interrupts_are_caught(process: u32) {
+    const SIGINT: u64 = 1 << 1;
+    for _ in 0..600 {
+        let status = std::fs::read_to_string(format!("/proc/{process}/status")).unwrap_or_default();
+        let caught = status.lines().find_map(|line| line.strip_prefix("SigCgt:"));
+        let caught = caught.and_then(|mask| u64::from_str_radix(mask.trim(), 16).ok());
+        if caught.is_some_and(|mask| mask & SIGINT != 0) {
+            return;
+        }
+        std::thread::sleep(Duration::from_millis(50));
+    }
+    panic!("no handler for SIGINT after half a minute");
+}
+
 #[test]
 fn an_interrupt_prints_what_is_done() {
     let model = DESK.replace("COUNTER 30", "COUNTER 60000");
@@ -147,6 +162,7 @@ fn an_interrupt_prints_what_is_done() {
         .stderr(Stdio::piped())
         .spawn()
         .unwrap();
+    until_interrupts_are_caught(study.id());
     std::thread::sleep(Duration::from_millis(700));
     let kill = Command::new("kill")
         .args(["-INT", &study.id().to_string()])
