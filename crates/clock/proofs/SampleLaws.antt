@@ -1,6 +1,6 @@
 -- A clock move that is only counted stands for the machine's sampled servers and queues: their sums and longest, brought up to date, are
 -- the machine's. Sums of 64 bits hold them.
-use Rattle.machine.specs.All.{ℕ, zero, suc, ◌+◌, ◌*◌, ◌-◌, max, ◌≤◌, ◌<◌, ◌≡◌, refl, sym, ap, ◌∙◌, ◌≢◌, List, [], ◌∷◌, map, mul-le-mul, arith, ltb-true, ltb-false, ltb, length, get_or, length-map, length-set, List·getD-eq-default, get_or-set_same, get_or-set_other, max_clock, Transaction, bit, Server, Queue, idle_server, empty_queue, BlockModel, State, Each, Bool, true, false}
+use Rattle.machine.specs.All.{ℕ, zero, suc, ◌+◌, ◌*◌, ◌-◌, max, ◌≤◌, ◌<◌, ◌≡◌, refl, sym, ap, ◌∙◌, ◌≢◌, List, [], ◌∷◌, map, mul-le-mul, arith, ltb-true, ltb-false, ltb, length, get_or, length-map, length-set, get_or-eq_default, get_or-set_same, get_or-set_other, max_clock, Transaction, bit, Server, Queue, idle_server, empty_queue, BlockModel, State, Each, Bool, true, false}
 use Rattle.machine.specs.Turn as Machine
 use Rattle.machine.proofs.{Decoding.Proper.Proper, Decoding.Proper.servers, Runs.Shape.each-get_or, Runs.Shape.server-length}
 use Rattle.layout.specs.All.{most64}
@@ -155,11 +155,11 @@ module _ {m : BlockModel} {tape : List (List ℕ)} (proper : Proper m tape) (s :
   after_none : (v : ℕ) → n ≤ v → After v
   unfolding idle_server
   after_none v le =
-      let is : server v ≡ idle_server 0 = List·getD-eq-default s.view.servers (idle_server 0) {n = v} (omega (arith, servers_are)) in
+      let is : server v ≡ idle_server 0 = get_or-eq_default s.view.servers (idle_server 0) {n = v} (omega (arith, servers_are)) in
       let is' : after v ≡ idle_server 0 =
-      List·getD-eq-default (Machine.sample_servers ticks s.view.servers s.ql) (idle_server 0) {n = v}
+      get_or-eq_default (Machine.sample_servers ticks s.view.servers s.ql) (idle_server 0) {n = v}
       (omega (arith, sampled-length ticks (idle_server 0) s.view.servers s.ql, servers_are)) in
-      let none : line v ≡ [] = List·getD-eq-default s.ql [] {n = v} (omega (arith, sane.shape.ql-length)) in
+      let none : line v ≡ [] = get_or-eq_default s.ql [] {n = v} (omega (arith, sane.shape.ql-length)) in
       record {
         in_use = ap (λ x. x.in_use) (is' ∙ sym is);
         holder = ap (λ x. x.holder) (is' ∙ sym is);
@@ -237,10 +237,10 @@ module _ {m : BlockModel} {tape : List (List ℕ)} (proper : Proper m tape) (s :
   queue-none : (q : ℕ) → m.queues ≤ q → QueueAfter q
   unfolding empty_queue
   queue-none q le =
-      let is : queue q ≡ empty_queue = List·getD-eq-default s.view.queues empty_queue {n = q}
+      let is : queue q ≡ empty_queue = get_or-eq_default s.view.queues empty_queue {n = q}
       (omega (arith, sane.shape.queue-length)) in
       let is' : queue-after q ≡ empty_queue =
-      List·getD-eq-default (map (Machine.sample_queue ticks) s.view.queues) empty_queue {n = q}
+      get_or-eq_default (map (Machine.sample_queue ticks) s.view.queues) empty_queue {n = q}
       (omega (arith, length-map s.view.queues (Machine.sample_queue ticks), sane.shape.queue-length)) in
       record {
         contents = ap (λ x. x.content) (is' ∙ sym is);

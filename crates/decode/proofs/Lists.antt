@@ -1,5 +1,5 @@
 -- The sample lists of a tape, pure: time by time, list by list, and what their cells then hold.
-use Rattle.machine.specs.All.{clash, ℕ, zero, suc, ◌+◌, ◌-◌, ◌≤◌, ◌<◌, add-one, arith, ◌≡◌, refl, sym, ap, ◌∙◌, Bool, true, false, cond, ◌&&◌, Option, none, some, List, [], ◌∷◌, length, get_or, set, length-set, length-replicate, List·getD-eq-default, get_or-set_same, get_or-set_other, ltb, leb, eqb, ltb-true, ltb-false, eq-eqb, ne_eqb, in_force, max_time, max_samples, Number, Cursor, Parsed, parsed, refused, Parser, continue, field_of, times, ask, field_up_to, list_field, at_end, tape_of, beginning}
+use Rattle.machine.specs.All.{clash, ℕ, zero, suc, ◌+◌, ◌-◌, ◌≤◌, ◌<◌, add-one, arith, ◌≡◌, refl, sym, ap, ◌∙◌, Bool, true, false, cond, ◌&&◌, Option, none, some, List, [], ◌∷◌, length, get_or, set, length-set, length-replicate, get_or-eq_default, get_or-set_same, get_or-set_other, ltb, leb, eqb, ltb-true, ltb-false, eq-eqb, ne_eqb, in_force, max_time, max_samples, Number, Cursor, Parsed, parsed, refused, Parser, continue, field_of, times, ask, field_up_to, list_field, at_end, tape_of, beginning}
 use Rattle.codec.specs.{declared.Field.Field, Answers.parsed_of}
 use Rattle.codec.specs.declared.Field.TheVariants.{Value, Refused as NoField}
 use Rattle.layout.specs.All.{TimesAt}
@@ -327,7 +327,7 @@ module _ (s : List ℕ) where
           let g = ltb-false k (length ls) e in
           filled-other s ls 0 empty_lists after f (16 + k) (λ y a c. ((λ z. omega arith), (λ z. omega arith)))
           ∙ empty-zero (16 + k)
-          ∙ sym (ap length (List·getD-eq-default ls [] g))
+          ∙ sym (ap length (get_or-eq_default ls [] g))
 
   -- the same of each of all lists
   pub all-begin : (ls : List (List ℕ)) (after : List ℕ) → length ls ≤ 16 → Filled s 0 empty_lists after ls → (k : ℕ) → k < length ls →

@@ -1,5 +1,5 @@
 -- The whole model, pure: its three parts make it, and questions 6 and 7 are those of the machine.
-use Rattle.machine.specs.All.{ℕ, ◌≤◌, ◌<◌, arith, ◌≡◌, refl, ap, ◌∙◌, true, false, ◌&&◌, List, leb, leb·zero, length, eq-eqb, ne_eqb, le-leb, lt-leb, in_force, Cursor, Parsed, parsed, refused, continue, ask, BlockModel, model_fields, at_end, targets_move, well_formed, model_of_lem, beginning}
+use Rattle.machine.specs.All.{ℕ, ◌≤◌, ◌<◌, arith, ◌≡◌, refl, ap, ◌∙◌, true, false, ◌&&◌, List, leb, leb-zero, length, eq-eqb, ne_eqb, le-leb, lt-leb, in_force, Cursor, Parsed, parsed, refused, continue, ask, BlockModel, model_fields, at_end, targets_move, well_formed, model_of_lem, beginning}
 use Rattle.constants.specs.declared.model.Model.{Model}
 use Rattle.layout.specs.All.{sum_numbers, header_of, block_numbers}
 use Rattle.parse_values.specs.{declared.Place.Place, Keeps.cursor_of, Filled.stored_rows, Filled.all_named, Shapes.sum_named}
@@ -138,7 +138,7 @@ module _ (s : List ℕ) {l after : List ℕ} {r : Header}
             targets_machine (tables_of m) m f.block (blocks_stand m f),
             joined_machine (length m.blocks) (tables_of m) m.blocks 0 0 f.block (blocks_stand m f),
             values_name m.values 0 (length m.blocks),
-            leb·zero (length m.blocks),
+            leb-zero (length m.blocks),
           )
 
       bad : (placed_from after h.blocks 0 true && targets_from after h.blocks h.blocks 0 && leb p.named

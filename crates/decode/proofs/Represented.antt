@@ -1,5 +1,5 @@
 -- The cells of a whole model (specs/Models) represent it, pure.
-use Rattle.machine.specs.All.{ℕ, zero, suc, ◌+◌, ◌*◌, ◌-◌, ◌≤◌, ◌<◌, arith, ◌≡◌, refl, sym, ap, ◌∙◌, Bool, true, false, List, [], ◌∷◌, ◌++◌, ltb, T, length, get_or, drop, replicate, length-set, length-replicate, get_or-replicate, length-take, length-drop, List·getD-append, List·getD-eq-default, sets, get_or-set_same, get_or-set_other, length-sets, ext_get_or, get_or-take, get_or-drop, get_or-append-add, ltb-true, ltb-false, Sum, nothing, terminate, BlockModel}
+use Rattle.machine.specs.All.{ℕ, zero, suc, ◌+◌, ◌*◌, ◌-◌, ◌≤◌, ◌<◌, arith, ◌≡◌, refl, sym, ap, ◌∙◌, Bool, true, false, List, [], ◌∷◌, ◌++◌, ltb, T, length, get_or, drop, replicate, length-set, length-replicate, get_or-replicate, length-take, length-drop, get_or-append, get_or-eq_default, sets, get_or-set_same, get_or-set_other, length-sets, ext_get_or, get_or-take, get_or-drop, get_or-append-add, ltb-true, ltb-false, Sum, nothing, terminate, BlockModel}
 use Rattle.constants.specs.declared.model.Model.{Model}
 use Rattle.layout.specs.All.{block_forms, sum_numbers, block_numbers, At, small_block, small_sum, Watching, Sharing}
 use Rattle.parse_values.specs.{Keeps.number_shape, Filled.stored_rows, Filled.Each, Shapes.ProperValue}
@@ -100,7 +100,7 @@ module _ (a : Servers) (w : ProperServers a) where
       go true y e f =
           let h = ltb-true v a.facilities e in
           facility-cell v h
-          ∙ sym (List·getD-append (replicate a.facilities 1) a.capacities 0 v (omega (arith, l))
+          ∙ sym (get_or-append (replicate a.facilities 1) a.capacities 0 v (omega (arith, l))
           ∙ get_or-replicate a.facilities v 1 0 h)
       go false true e f =
           let h = ltb-false v a.facilities e in
@@ -111,7 +111,7 @@ module _ (a : Servers) (w : ProperServers a) where
           let h = ltb-false v a.facilities e in
           let g = ltb-false v (a.facilities + length a.capacities) f in
           other-cell (2560 + v) (omega arith) ∙ empty-zero a.edition (2560 + v) (λ z. omega arith)
-          ∙ sym (past h ∙ List·getD-eq-default a.capacities 0 (omega arith))
+          ∙ sym (past h ∙ get_or-eq_default a.capacities 0 (omega arith))
 
 -- ---- Values leave them
 
@@ -216,7 +216,7 @@ module _ (m : BlockModel) (w : ProperModel m) where
     where
       go : (x : Bool) → ltb b (length m.blocks) ≡ x → T (small_block (get_or m.blocks b (terminate 0)))
       go true e = (each_at (Formed (length m.blocks)) m.blocks (terminate 0) w.block b (ltb-true b (length m.blocks) e)).small
-      go false e = rw (List·getD-eq-default m.blocks (terminate 0) (ltb-false b (length m.blocks) e)) tt
+      go false e = rw (get_or-eq_default m.blocks (terminate 0) (ltb-false b (length m.blocks) e)) tt
 
   pub value-small : (k : ℕ) → T (small_sum (get_or m.values k nothing))
   unfolding small_sum
@@ -224,7 +224,7 @@ module _ (m : BlockModel) (w : ProperModel m) where
     where
       go : (x : Bool) → ltb k (length m.values) ≡ x → T (small_sum (get_or m.values k nothing))
       go true e = (each_at ProperValue m.values nothing w.value k (ltb-true k (length m.values) e)).1
-      go false e = rw (List·getD-eq-default m.values nothing (ltb-false k (length m.values) e)) tt
+      go false e = rw (get_or-eq_default m.values nothing (ltb-false k (length m.values) e)) tt
 
   -- ---- With the cells that say what the WAITIFs read
 

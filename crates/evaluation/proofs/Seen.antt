@@ -1,5 +1,5 @@
 -- What a term reads of the tables and the tally is what the machine's view holds.
-use Rattle.machine.specs.All.{ℕ, zero, suc, ◌-◌, ◌≤◌, ◌<◌, arith, List, [], ◌∷◌, ◌≡◌, refl, sym, ap, ltb, length, get_or, List·getD-eq-default, lt-ltb, ltb-true, ltb-false, max_blocks, max_queues, Server, idle_server, Queue, empty_queue, View, signed, wrap, one_if, ◌+◌, Bool, true, false, cond}
+use Rattle.machine.specs.All.{ℕ, zero, suc, ◌-◌, ◌≤◌, ◌<◌, arith, List, [], ◌∷◌, ◌≡◌, refl, sym, ap, ltb, length, get_or, get_or-eq_default, lt-ltb, ltb-true, ltb-false, max_blocks, max_queues, Server, idle_server, Queue, empty_queue, View, signed, wrap, one_if, ◌+◌, Bool, true, false, cond}
 use Rattle.std.proofs.Common.{pos}
 use Rattle.layout.specs.Layout as Layout
 use Rattle.evaluation.specs.{small, within, servers, free_units, parameters_of, Shows}
@@ -31,19 +31,19 @@ module _ (f : ℕ → ℕ) (l : List ℕ) (begin size : ℕ) (s : Shows f l begi
 
 -- past its end each list gives what is empty
 entries-past : (l : List ℕ) (size : ℕ) → length l ≤ size → (i : ℕ) → size ≤ i → get_or l i 0 ≡ 0
-entries-past l size h i g = List·getD-eq-default l 0 (omega arith)
+entries-past l size h i g = get_or-eq_default l 0 (omega arith)
 
 content-past : (l : List Queue) (size : ℕ) → length l ≤ size → (i : ℕ) → size ≤ i → (get_or l i empty_queue).content ≡ 0
 unfolding empty_queue
-content-past l size h i g = ap (λ (q : Queue). q.content) (List·getD-eq-default l empty_queue (omega arith))
+content-past l size h i g = ap (λ (q : Queue). q.content) (get_or-eq_default l empty_queue (omega arith))
 
 in-use-past : (l : List Server) (size : ℕ) → length l ≤ size → (i : ℕ) → size ≤ i → (get_or l i (idle_server 0)).in_use ≡ 0
 unfolding idle_server
-in-use-past l size h i g = ap (λ (v : Server). v.in_use) (List·getD-eq-default l (idle_server 0) (omega arith))
+in-use-past l size h i g = ap (λ (v : Server). v.in_use) (get_or-eq_default l (idle_server 0) (omega arith))
 
 capacity-past : (l : List Server) (size : ℕ) → length l ≤ size → (i : ℕ) → size ≤ i → (get_or l i (idle_server 0)).capacity ≡ 0
 unfolding idle_server
-capacity-past l size h i g = ap (λ (v : Server). v.capacity) (List·getD-eq-default l (idle_server 0) (omega arith))
+capacity-past l size h i g = ap (λ (v : Server). v.capacity) (get_or-eq_default l (idle_server 0) (omega arith))
 
 module _ {w : View} {tables tally : List ℕ} {clock : ℕ} (s : Sees w tables tally clock) where
   pub sees-clock : wrap (pos clock) ≡ wrap (pos w.clock)

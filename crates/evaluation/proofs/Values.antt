@@ -1,5 +1,5 @@
 -- A value evaluated on demand is the one that the machine's fold puts at its place, by induction over the values.
-use Rattle.machine.specs.All.{ℕ, zero, suc, ◌+◌, ◌*◌, ◌≤◌, ◌<◌, arith, Bool, true, false, cond, List, [], ◌∷◌, ◌++◌, ◌≡◌, refl, sym, ap, ◌∙◌, T, ltb, eqb, length, get_or, take, length-append, List·getD-append, List·getD-eq-default, take-suc, take-length, length-take-le, get_or_at, eqb-true, eqb-false, ltb-true, ltb-false, max_brackets, View, Sum, nothing, sum, worths}
+use Rattle.machine.specs.All.{ℕ, zero, suc, ◌+◌, ◌*◌, ◌≤◌, ◌<◌, arith, Bool, true, false, cond, List, [], ◌∷◌, ◌++◌, ◌≡◌, refl, sym, ap, ◌∙◌, T, ltb, eqb, length, get_or, take, length-append, get_or-append, get_or-eq_default, take-suc, take-length, length-take-le, get_or_at, eqb-true, eqb-false, ltb-true, ltb-false, max_brackets, View, Sum, nothing, sum, worths}
 use Rattle.std.proofs.Common.{ℤ, pos}
 use Rattle.layout.specs.Layout as Layout
 use Rattle.layout.specs.All.{terms, sum_numbers, At, small_sum, signed_terms}
@@ -31,13 +31,13 @@ get_or_snoc l x n k h = go (eqb k n) refl
     go false e = away (ltb k n) refl
       where
         away : (t : Bool) → ltb k n ≡ t → get_or (l ++ (x ∷ [])) k (pos 0) ≡ get_or l k (pos 0)
-        away true b = let i = ltb-true k n b in List·getD-append l (x ∷ []) (pos 0) k (omega arith)
+        away true b = let i = ltb-true k n b in get_or-append l (x ∷ []) (pos 0) k (omega arith)
         away false b =
             let i = ltb-false k n b in
             let ne = eqb-false k n e in
             let past : length (l ++ (x ∷ [])) ≤ k = simp length-append (omega arith) in
-            List·getD-eq-default (l ++ (x ∷ [])) (pos 0) past
-            ∙ sym (List·getD-eq-default l (pos 0) (omega arith))
+            get_or-eq_default (l ++ (x ∷ [])) (pos 0) past
+            ∙ sym (get_or-eq_default l (pos 0) (omega arith))
 
 -- the sums of all values stand in the tables, with small constants and at most four brackets open
 pub record Values (values : List Sum) (tables : List ℕ) : Type 0 where

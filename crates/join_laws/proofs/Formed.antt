@@ -1,5 +1,5 @@
 -- Question 7 of the joined model: both parts are well formed, and nothing leads from one into the other.
-use Rattle.machine.specs.All.{ℕ, suc, ◌+◌, ◌-◌, ◌≤◌, ◌<◌, arith, ◌≡◌, refl, sym, ap, ap₂, subst, ◌∙◌, Bool, true, false, cond, not, ◌&&◌, ◌||◌, List, [], ◌∷◌, ◌++◌, map, eqb-false, ne_eqb, leb-true, leb-false, le-leb, lt-leb, T, leb, ltb, eqb, length, get_or, length-append, length-map, List·getD-append, List·getD-map, List·getD-eq-default, get_or-append-add, max_back, bit, is_generate, Term, constant, minus_constant, parameter, clock_term, entries_of, content_of, units_in_use, units_free, facility_in_use, value, comparison, bracket, Sum, nothing, plus, minus, always, when_true, wel_index, unconditional, Block, generate, advance, terminate, takes, frees, wait_server, wait_terms, moves, assign, priority, split, counts, assemble, preempt, give_back, facts, BlockModel, block_at, back_at, inside_group, well_placed, all_of, joined, targets_move, term_names, sum_names, well_formed, Each}
+use Rattle.machine.specs.All.{ℕ, suc, ◌+◌, ◌-◌, ◌≤◌, ◌<◌, arith, ◌≡◌, refl, sym, ap, ap₂, subst, ◌∙◌, Bool, true, false, cond, not, ◌&&◌, ◌||◌, List, [], ◌∷◌, ◌++◌, map, eqb-false, ne_eqb, leb-true, leb-false, le-leb, lt-leb, T, leb, ltb, eqb, length, get_or, length-append, length-map, get_or-append, get_or-map, get_or-eq_default, get_or-append-add, max_back, bit, is_generate, Term, constant, minus_constant, parameter, clock_term, entries_of, content_of, units_in_use, units_free, facility_in_use, value, comparison, bracket, Sum, nothing, plus, minus, always, when_true, wel_index, unconditional, Block, generate, advance, terminate, takes, frees, wait_server, wait_terms, moves, assign, priority, split, counts, assemble, preempt, give_back, facts, BlockModel, block_at, back_at, inside_group, well_placed, all_of, joined, targets_move, term_names, sum_names, well_formed, Each}
 use Rattle.machine.proofs.{Decoding.Proper.ProperBlock, Decoding.Proper.Proper, Lists.Sums.up_to_cong, Conservation.StartLedger.each_of}
 use Rattle.machine.proofs.Decoding.Groups.{and_left, and_right, back-within}
 use Rattle.joined.specs.Join.{Part, first, second, term_in, sum_in, share_in, condition_in, block_in, join_models}
@@ -171,7 +171,7 @@ record Sits (p : Part) (m joint : BlockModel) : Type 0 where
 
 past_end : (m : BlockModel) (n : ℕ) → length m.blocks < n → back_at m n ≡ 0
 unfolding facts
-past_end m n h = ap (λ b. (facts b).back) (List·getD-eq-default m.blocks (terminate 0) (omega arith))
+past_end m n h = ap (λ b. (facts b).back) (get_or-eq_default m.blocks (terminate 0) (omega arith))
 
 module _ (p : Part) {m joint : BlockModel} (sits : Sits p m joint) (proper : (n : ℕ) → ProperBlock m (block_at m n)) where
   inside-same : (t : ℕ) → 1 ≤ t → t ≤ length m.blocks → inside_group joint (t + p.to_block) ≡ inside_group m t
@@ -237,15 +237,15 @@ module _ {m₁ m₂ : BlockModel} {tape₁ tape₂ : List (List ℕ)} (proper₁
   in-first : (i : ℕ) → i < length m₁.blocks → both i ≡ block_in (first m₁ m₂) (get_or m₁.blocks i (terminate 0))
   unfolding block_in
   in-first i h =
-      List·getD-append blocks₁ blocks₂ (terminate 0) i (omega (arith, length-map m₁.blocks (block_in (first m₁ m₂))))
-      ∙ List·getD-map (block_in (first m₁ m₂)) m₁.blocks i (terminate 0)
+      get_or-append blocks₁ blocks₂ (terminate 0) i (omega (arith, length-map m₁.blocks (block_in (first m₁ m₂))))
+      ∙ get_or-map (block_in (first m₁ m₂)) m₁.blocks i (terminate 0)
 
   in-second : (i : ℕ) → both (length m₁.blocks + i) ≡ block_in (second m₁ m₂) (get_or m₂.blocks i (terminate 0))
   unfolding block_in
   in-second i =
       ap (λ n. both (n + i)) (sym (length-map m₁.blocks (block_in (first m₁ m₂))))
       ∙ get_or-append-add blocks₁ blocks₂ i (terminate 0)
-      ∙ List·getD-map (block_in (second m₁ m₂)) m₂.blocks i (terminate 0)
+      ∙ get_or-map (block_in (second m₁ m₂)) m₂.blocks i (terminate 0)
 
   sits₁ : Sits (first m₁ m₂) m₁ (join_models m₁ m₂)
   unfolding join_models

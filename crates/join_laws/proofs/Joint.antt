@@ -1,5 +1,5 @@
 -- The joined model's bytes are read as the joined model.
-use Rattle.machine.specs.All.{ℕ, suc, ◌+◌, ◌-◌, ◌≤◌, zero-add, add-zero, arith, ◌≡◌, refl, ap, subst, ◌∙◌, List, [], ◌∷◌, ◌++◌, map, append-nil, append_assoc, map-append, map-map, T, length, get_or, length-append, length-map, List·getD-append, Rules, in_force, flat, nth, Sum, Block, BlockModel, Counts, number, value_fields, block_field, model_fields, all_of, sum_names, Each, times, sym, ap₂}
+use Rattle.machine.specs.All.{ℕ, suc, ◌+◌, ◌-◌, ◌≤◌, zero-add, add-zero, arith, ◌≡◌, refl, ap, subst, ◌∙◌, List, [], ◌∷◌, ◌++◌, map, append-nil, append_assoc, map-append, map-map, T, length, get_or, length-append, length-map, get_or-append, Rules, in_force, flat, nth, Sum, Block, BlockModel, Counts, number, value_fields, block_field, model_fields, all_of, sum_names, Each, times, sym, ap₂}
 use Rattle.machine.specs.Limits as Limits
 use Rattle.machine.proofs.Basic.Each.{each_map, each-get_or, each_append}
 use Rattle.joined.specs.Join.{first, second, sum_in, block_in, join_models}
@@ -130,7 +130,7 @@ module _ (m₁ m₂ : BlockModel) (ok : Fits m₁ m₂) (d₁ : Decoded m₁) (d
               blocks = omega arith;
               capacity = λ k low high.
                   let e : nth capacities (k + 0) 0 ≡ nth m₁.capacities k 0 =
-                  ap (λ i. nth capacities i 0) (add-zero k) ∙ List·getD-append m₁.capacities m₂.capacities 0 (k - 1) (omega arith) in
+                  ap (λ i. nth capacities i 0) (add-zero k) ∙ get_or-append m₁.capacities m₂.capacities 0 (k - 1) (omega arith) in
                   omega (arith, e);
               most-capacity = most-capacity;
             };

@@ -1,6 +1,6 @@
 -- Document 02, item 9: "the kept first is the first that a full walk finds, and none exactly when the list is empty", for a list in which
 -- everybody stands before those behind.
-use Rattle.machine.specs.All.{ℕ, zero, suc, ◌≤◌, ◌<◌, ◌≡◌, refl, sym, ap, ◌∙◌, subst, ◌≢◌, Bool, true, false, cond, not, List, [], ◌∷◌, map, arith, ℕ_discrete, lt-ltb, le-ltb, eqb-true, eqb-false, not_false, eqb, take, Transaction, Event, precedes}
+use Rattle.machine.specs.All.{ℕ, zero, suc, ◌≤◌, ◌<◌, ◌≡◌, refl, sym, ap, ◌∙◌, subst, ◌≢◌, Bool, true, false, cond, not, List, [], ◌∷◌, map, arith, ℕ_discrete, lt-ltb, le-ltb, eqb-true, eqb-false, not-false, eqb, take, Transaction, Event, precedes}
 use Rattle.rows_laws.specs.All.{place, fel, load, outranks, sooner, first, transaction_at, occurs, Listed, Sorted, Strict, Shows, earlier_of, walk_to, full_walk, or_none, NoneWhenEmpty, KeptFirst, kept, KeptHead}
 use Rattle.rows_laws.proofs as our
 use our.counting.Occurs.{same_refl, same-other, same_pos, occurs-cons}
@@ -96,7 +96,7 @@ module _ (before : ℕ → ℕ → Bool) (o : Order before) (w : List ℕ) (p : 
           let here : 1 ≤ occurs y m = omega (arith, on y hx at, ap (occurs y) q, occurs-cons y f m, same-other y f d) in
           let own : 1 ≤ occurs f l = omega (arith, ap (occurs f) q, occurs-cons f f m, same_refl f f refl) in
           let there : load w (place f) ≡ p = same_pos (load w (place f)) p (omega (arith, own, one.once f h)) in
-          not-both (before f y) (not_false (before f y) (all-at (λ z. not (before f z) ≡ false) y m sorted.0 here)) (least f h there)
+          not-both (before f y) (not-false (before f y) (all-at (λ z. not (before f z) ≡ false) y m sorted.0 here)) (least f h there)
 
       go : First w p l → Best (walk_to before w p 1024) 1024 → or_none (first w p) ≡ walk_to before w p 1024
       go (none q h) (nobody e b) = no_row (first w p) h ∙ sym e

@@ -1,5 +1,5 @@
 -- Before a block on a server: what the tables and the tally hold of it.
-use Rattle.machine.specs.All.{ℕ, ◌-◌, ◌≤◌, ◌≡◌, refl, List, [], arith, length, List·getD-map, Transaction, bit, idle_server, Block, BlockModel, State, set_moving, ql_of, none}
+use Rattle.machine.specs.All.{ℕ, ◌-◌, ◌≤◌, ◌≡◌, refl, List, [], arith, length, get_or-map, Transaction, bit, idle_server, Block, BlockModel, State, set_moving, ql_of, none}
 use Rattle.machine.specs.Term
 use Rattle.machine.proofs.Decoding.Proper.{servers}
 use Rattle.machine.proofs.Runs.Shape.{capacity_of, each-get_or, server-length, ql-at, wel-at}
@@ -32,7 +32,7 @@ module _ {m : BlockModel} {tape : List (List ℕ)} {tape_bytes tables lists w ta
   unfolding Term.server_at idle_server
   capacity-is =
       h.rep.capacities (v - 1) (omega (arith, high)) ∙ ap (λ (l : List ℕ). get_or l (v - 1) 0) (sym h.sane.shape.capacities)
-      ∙ List·getD-map capacity_of s.view.servers (v - 1) (idle_server 0)
+      ∙ get_or-map capacity_of s.view.servers (v - 1) (idle_server 0)
 
   -- no QL is longer than 1,024
   pub short : length (ql_of s v) ≤ 1024

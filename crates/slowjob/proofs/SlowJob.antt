@@ -1,5 +1,5 @@
 -- Document 02, item 14: the k-th end of every run is that of the recurrence, so that one slow job delays no end by more than its own delay.
-use Rattle.machine.specs.All.{ℕ, zero, suc, ◌<◌, ◌≡◌, refl, ap, subst₂, ◌∙◌, List, [], ◌∷◌, arith, ltb-true, ltb-false, length, get_or, length-append, List·getD-append, get_or-append_seam, BlockModel, Rules, in_force, Record, run, accept, validate, records_of, accepted_run, outcome_of, outcome, subst, Bool, true, false, ltb, terminate, nth}
+use Rattle.machine.specs.All.{ℕ, zero, suc, ◌<◌, ◌≡◌, refl, ap, subst₂, ◌∙◌, List, [], ◌∷◌, arith, ltb-true, ltb-false, length, get_or, length-append, get_or-append, get_or-append_seam, BlockModel, Rules, in_force, Record, run, accept, validate, records_of, accepted_run, outcome_of, outcome, subst, Bool, true, false, ltb, terminate, nth}
 use Rattle.machine.proofs.Decoding.ProperFrom.{proper-from, rules-from}
 use Rattle.trace.specs.Whole.{Reads}
 use Rattle.trace.proofs.RoundTrip.{reads-once}
@@ -23,7 +23,7 @@ module _ (arrivals services : List ℕ) where
       go : (b : Bool) → ltb k n ≡ b → (k < n → get_or (firsts arrivals services n) k 0 ≡ leaves arrivals services (suc k))
           → get_or (firsts arrivals services (suc n)) k 0 ≡ leaves arrivals services (suc k)
       go true e h =
-          List·getD-append (firsts arrivals services n) (leaves arrivals services (suc n) ∷ []) 0 k
+          get_or-append (firsts arrivals services n) (leaves arrivals services (suc n) ∷ []) 0 k
           (omega (arith, firsts-length n, ltb-true k n e)) ∙ h (ltb-true k n e)
       go false e h =
           let last : k ≡ length (firsts arrivals services n) = omega (arith, firsts-length n, ltb-false k n e) in

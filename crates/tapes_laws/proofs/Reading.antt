@@ -1,5 +1,5 @@
 -- What a call gives, pure: what is read from the doubles, case by case.
-use Rattle.machine.specs.All.{cases, ℕ, ◌+◌, ◌≤◌, ◌<◌, arith, List, Option, none, some, ◌≡◌, ◌∙◌, length, get_or, List·getD-eq-default, le-leb, lt-leb, ltb-true, sym, ap}
+use Rattle.machine.specs.All.{cases, ℕ, ◌+◌, ◌≤◌, ◌<◌, arith, List, Option, none, some, ◌≡◌, ◌∙◌, length, get_or, get_or-eq_default, le-leb, lt-leb, ltb-true, sym, ap}
 use lib.Ieee.{Float, nan}
 use lib.Pow.{pow_pos}
 use Rattle.floats.specs.{Answers.count_of, declared.Parts.Parts, declared.Parts.TheVariants.Count, declared.Parts.TheVariants.Refused as Unread, Value.Is, Value.parts_of}
@@ -17,11 +17,11 @@ none-some e = let z : ◌≡◌ {A = ℕ} 0 1 = cc in absurd (omega arith)
 module _ (numbers : List Float) (at : ℕ) where
   pub time-past : length numbers ≤ at → none ≡ time_at numbers at
   unfolding time_at parts_of
-  time-past h = rw (List·getD-eq-default numbers nan h)
+  time-past h = rw (get_or-eq_default numbers nan h)
 
   pub u-past : length numbers ≤ at → none ≡ u_at numbers at
   unfolding u_at parts_of
-  u-past h = rw (List·getD-eq-default numbers nan h)
+  u-past h = rw (get_or-eq_default numbers nan h)
 
   inside_of : {n : ℕ} {o : Option ℕ} → (length numbers ≤ at → none ≡ o) → o ≡ some n → at < length numbers
   inside_of past e =

@@ -1,5 +1,5 @@
 -- Those who go back to a QL one after the other: their chain is that of REL, of which it is cut off behind the last of them.
-use Rattle.machine.specs.All.{cases, ℕ, zero, suc, ◌+◌, ◌-◌, ◌%◌, ◌/◌, ◌≤◌, ◌<◌, ◌≡◌, ◌≢◌, refl, sym, ap, ◌∙◌, Bool, true, false, cond, ◌&&◌, List, arith, lt-ltb, le-ltb, eq-eqb, ltb-true, ltb-false, eqb-true, eqb-false, not_true, ltb, eqb, length, get_or}
+use Rattle.machine.specs.All.{cases, ℕ, zero, suc, ◌+◌, ◌-◌, ◌%◌, ◌/◌, ◌≤◌, ◌<◌, ◌≡◌, ◌≢◌, refl, sym, ap, ◌∙◌, Bool, true, false, cond, ◌&&◌, List, arith, lt-ltb, le-ltb, eq-eqb, ltb-true, ltb-false, eqb-true, eqb-false, not-true, ltb, eqb, length, get_or}
 use Rattle.machine.proofs.Basic.Bools.{cond_true, cond_false}
 use Rattle.layout.specs.Layout as Layout
 use Rattle.rows_laws.specs.All.{rel, links, place, head, tail, link, field_at, nowhere, load, store, read, outranks, first, end_at, insert_at, remove_row, remove_at, take_first, spot_before, spot, note, put, line_up}
@@ -384,7 +384,7 @@ ends-is-last {w} {v} {c} {k} h =
     let b = cond_true (ltb (c - links) 1024) _ a.1 in
     let d = cond_false (eqb (c - links) k) _ b.1 in
     behind-row (c - links) (ltb-true _ 1024 b.0) (omega (arith, ltb-false c links a.0)) (eqb-false (c - links) k d.0)
-    (not_true _ d.1))
+    (not-true _ d.1))
 
 -- who comes back is returning
 back_odd : (w : List ℕ) (block : ℕ) → back_to w ≡ block → block ≢ 0 → (first w rel < 1024) × (read w 1 (first w rel) % 2 ≡ 1)

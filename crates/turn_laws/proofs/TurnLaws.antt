@@ -1,5 +1,5 @@
 -- A turn over scalars, buffers and trace is the machine's turn.
-use Rattle.machine.specs.All.{cases, ℕ, ◌+◌, ◌-◌, ◌*◌, ◌≤◌, ◌<◌, ◌≡◌, refl, sym, ap, ◌∙◌, subst, Bool, true, false, cond, not, true≢false, List, Option, none, some, arith, lt-ltb, le-ltb, eqb-true, not_false, ltb, eqb, length, get_or, Transaction, Block, BlockModel, block_at, State, records_of, wake_wsl, question, Thing, the_clock, ◌++◌, drop, Record, trace_bytes_lem, Logged}
+use Rattle.machine.specs.All.{cases, ℕ, ◌+◌, ◌-◌, ◌*◌, ◌≤◌, ◌<◌, ◌≡◌, refl, sym, ap, ◌∙◌, subst, Bool, true, false, cond, not, true≢false, List, Option, none, some, arith, lt-ltb, le-ltb, eqb-true, not-false, ltb, eqb, length, get_or, Transaction, Block, BlockModel, block_at, State, records_of, wake_wsl, question, Thing, the_clock, ◌++◌, drop, Record, trace_bytes_lem, Logged}
 use Rattle.machine.specs.Turn as Machine
 use Rattle.machine.proofs.{Decoding.Proper.Proper, Runs.RunLaws.Taken, NobodyAble.StillWaiting.MoverSpares, NobodyAble.StillWaiting.scheme-unread}
 use Rattle.layout.specs.Layout as Layout
@@ -226,7 +226,7 @@ module _ {m : BlockModel} {tape : List (List ℕ)} {tape_bytes tables lists befo
       go : (c : Bool) → eqb r.scalars.clock acted.rows.scalars.clock ≡ c
           → cond c false (not (eqb (get_or tables Layout.clock_asked 0) 0)) ≡ false → s.view.clock ≡ y.view.clock
       go true e q = sym runs.stands.counting.clock ∙ eqb-true _ _ e ∙ acted-clock
-      go false e q = absurd (not_in the_clock (rep.watching.clock (eqb-true _ 0 (not_false _ q))) h)
+      go false e q = absurd (not_in the_clock (rep.watching.clock (eqb-true _ 0 (not-false _ q))) h)
 
   abbrev block_asks : ℕ → Bool
   block_asks n = cond (ltb (n - 1) 256) (not (eqb (get_or tables (Layout.asked + (n - 1)) 0) 0)) true
@@ -240,7 +240,7 @@ module _ {m : BlockModel} {tape : List (List ℕ)} {tape_bytes tables lists befo
       let placed = rw e at sane₁.placed.moving in
       let inside : t.next - 1 < length m.blocks = omega arith in
       let low : t.next - 1 < 256 = omega arith in
-      let cell = eqb-true _ 0 (not_false _ (rw (lt-ltb _ 1024 h.listing.mover.0.row, next, lt-ltb) at q)) in
+      let cell = eqb-true _ 0 (not-false _ (rw (lt-ltb _ 1024 h.listing.mover.0.row, next, lt-ltb) at q)) in
       (not_in _ (rep.watching.entries _ inside cell), rep.watching.changes _ inside cell)
 
   still : asking ≡ false → Machine.ws_scheme m z ≡ z

@@ -1,5 +1,5 @@
 -- The WS scheme over the rows is the machine's.
-use Rattle.machine.specs.All.{cases, ℕ, ◌+◌, ◌-◌, ◌*◌, ◌≤◌, ◌<◌, ◌≡◌, refl, sym, ap, ◌∙◌, subst, Bool, true, false, cond, not, List, ◌∷◌, Option, none, arith, ltb-true, ltb-false, lt-ltb, le-ltb, ltb, eqb, length, get_or, List·getD-eq-default, Transaction, View, compare, Term, Relation, truth, Block, terminate, facility, storage, wait_terms, facts, BlockModel, State, wake_wsl}
+use Rattle.machine.specs.All.{cases, ℕ, ◌+◌, ◌-◌, ◌*◌, ◌≤◌, ◌<◌, ◌≡◌, refl, sym, ap, ◌∙◌, subst, Bool, true, false, cond, not, List, ◌∷◌, Option, none, arith, ltb-true, ltb-false, lt-ltb, le-ltb, ltb, eqb, length, get_or, get_or-eq_default, Transaction, View, compare, Term, Relation, truth, Block, terminate, facility, storage, wait_terms, facts, BlockModel, State, wake_wsl}
 use Rattle.machine.specs.Turn as Turn
 use Rattle.machine.proofs.Decoding.Proper.{Proper}
 use Rattle.layout.specs.All.{block_forms, block_numbers, Represents}
@@ -78,7 +78,7 @@ module _ {m : BlockModel} {tape : List (List ℕ)} {tape_bytes tables lists : Li
   -- a row whose next block is none of the model's counts as one at a TERMINATE
   outside : length m.blocks ≤ i → waits_at (get_or m.blocks i (terminate 0)) ≡ false
   unfolding Turn.holds facts
-  outside h = rw (List·getD-eq-default m.blocks (terminate 0) h)
+  outside h = rw (get_or-eq_default m.blocks (terminate 0) h)
 
   -- the row's test is the machine's: the comparison no longer holds
   pub leaves_agrees : leaves tables (length m.blocks) (length m.values) tally clock w k

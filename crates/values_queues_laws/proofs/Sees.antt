@@ -1,5 +1,5 @@
 -- What terms see of tables, tally and clock is what the machine's view holds.
-use Rattle.machine.specs.All.{ℕ, zero, suc, ◌+◌, ◌≤◌, ◌<◌, ◌≡◌, sym, List, [], ◌∷◌, ◌++◌, arith, length, get_or, replicate, List·getD-map, max_capacity, max_turns, Queue, idle_server, empty_queue, BlockModel, State, Each}
+use Rattle.machine.specs.All.{ℕ, zero, suc, ◌+◌, ◌≤◌, ◌<◌, ◌≡◌, sym, List, [], ◌∷◌, ◌++◌, arith, length, get_or, replicate, get_or-map, max_capacity, max_turns, Queue, idle_server, empty_queue, BlockModel, State, Each}
 use Rattle.machine.proofs.Decoding.Proper.{Proper}
 use Rattle.machine.proofs.Runs.Shape.{Shape, Within, capacity_of, all_capacities, each-get_or, server-length}
 use Rattle.layout.specs.All.{Represents}
@@ -36,7 +36,7 @@ module _ {m : BlockModel} {s : State} (lows : Low m s) where
   capacity-is : (v : ℕ) → (get_or s.view.servers v (idle_server 0)).capacity ≡ get_or (all_capacities m) v 0
   unfolding idle_server
   capacity-is v =
-      sym (List·getD-map capacity_of s.view.servers v (idle_server 0)) ∙ ap (λ (l : List ℕ). get_or l v 0) lows.shape.capacities
+      sym (get_or-map capacity_of s.view.servers v (idle_server 0)) ∙ ap (λ (l : List ℕ). get_or l v 0) lows.shape.capacities
 
   capacity-low : {tape : List (List ℕ)} → Proper m tape → (v : ℕ) → (get_or s.view.servers v (idle_server 0)).capacity ≤ max_capacity
   capacity-low proper v =

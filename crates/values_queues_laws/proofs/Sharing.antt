@@ -1,5 +1,5 @@
 -- What a side of a comparison is worth to a row is what the machine says: a side that names no parameter is worth the same with any.
-use Rattle.machine.specs.All.{cases, ℕ, zero, suc, ◌+◌, ◌-◌, ◌*◌, ◌≤◌, ◌<◌, ◌≡◌, refl, sym, ap, ◌∙◌, subst, Bool, true, false, cond, not, true≢false, List, [], ◌∷◌, arith, ltb-true, ltb-false, lt-ltb, le-ltb, eqb-true, not_false, T, ltb, eqb, lit<, length, get_or, List·getD-eq-default, signed, low32, View, Term, constant, minus_constant, parameter, clock_term, entries_of, content_of, units_in_use, units_free, facility_in_use, value, comparison, bracket, Relation, term, worths, evaluate, compare, wait_terms, terminate, BlockModel}
+use Rattle.machine.specs.All.{cases, ℕ, zero, suc, ◌+◌, ◌-◌, ◌*◌, ◌≤◌, ◌<◌, ◌≡◌, refl, sym, ap, ◌∙◌, subst, Bool, true, false, cond, not, true≢false, List, [], ◌∷◌, arith, ltb-true, ltb-false, lt-ltb, le-ltb, eqb-true, not-false, T, ltb, eqb, lit<, length, get_or, get_or-eq_default, signed, low32, View, Term, constant, minus_constant, parameter, clock_term, entries_of, content_of, units_in_use, units_free, facility_in_use, value, comparison, bracket, Relation, term, worths, evaluate, compare, wait_terms, terminate, BlockModel}
 use lib.IntN.{ℤ, pos}
 use lib.Signed.{mag}
 use mir.Syntax.{w32}
@@ -108,7 +108,7 @@ held_for tables values tally clock at w k h =
 -- a parameter that does not exist reads 0
 pub parameter-past : (w : List ℕ) (k i : ℕ) → 4 ≤ i → 0 ≡ get_or (parameters_at w k) i 0
 unfolding parameters_at
-parameter-past w k i h = sym (List·getD-eq-default (parameters_at w k) 0 h)
+parameter-past w k i h = sym (get_or-eq_default (parameters_at w k) 0 h)
 
 pub parameter-read : (w : List ℕ) (k i : ℕ) → i < 4 → read w (2 + i) k ≡ get_or (parameters_at w k) i 0
 unfolding parameters_at
@@ -129,7 +129,7 @@ parameter-term tables tally values clock p at e =
       where
         go : (b : Bool) → ltb at (length tables) ≡ b → at < length tables
         go true f = ltb-true at (length tables) f
-        go false f = absurd (omega (arith, e, List·getD-eq-default tables 0 (ltb-false at (length tables) f)))
+        go false f = absurd (omega (arith, e, get_or-eq_default tables 0 (ltb-false at (length tables) f)))
 
 -- ---- A term that names no parameter
 
@@ -146,7 +146,7 @@ module _ {m : BlockModel} {tape : List (List ℕ)} {tape_bytes tables lists : Li
       let inside = own-inside tables at e in
       let f = at_first tables at 9 (n ∷ []) h in
       let g = at_first tables (at + 1) n [] f.after in
-      eqb-true _ 0 (not_false _ (rw (lt-ltb at Layout.tables_size inside, ← f.found, ← g.found) at e))
+      eqb-true _ 0 (not-false _ (rw (lt-ltb at Layout.tables_size inside, ← f.found, ← g.found) at e))
 
   module _ (view : View) (p p' : List ℤ) where
     value_shared : (k : ℕ) → get_or tables (Layout.names_own + k) 0 ≡ 0
@@ -161,8 +161,8 @@ module _ {m : BlockModel} {tape : List (List ℕ)} {tape_bytes tables lists : Li
             (unfold evaluate term in rep.sharing k (ltb-true k (length m.values) e) cell view p p')
         go false e =
             let past = ltb-false k (length m.values) e in
-            List·getD-eq-default (worths view p m.values []) (pos 0) (omega (arith, worths-length view p m.values [], past))
-            ∙ sym (List·getD-eq-default (worths view p' m.values []) (pos 0) (omega (arith, worths-length view p' m.values [], past)))
+            get_or-eq_default (worths view p m.values []) (pos 0) (omega (arith, worths-length view p m.values [], past))
+            ∙ sym (get_or-eq_default (worths view p' m.values []) (pos 0) (omega (arith, worths-length view p' m.values [], past)))
 
     term_shared : (t : Term) (at : ℕ) → At tables at (term_numbers t) → T (nested_term 0 t) → names_own tables at ≡ false
         → evaluate m.values view p t ≡ evaluate m.values view p' t

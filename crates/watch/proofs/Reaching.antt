@@ -1,5 +1,5 @@
 -- What is marked: all that the WAITIFs read, through values; of a value alone, all that it reads.
-use Rattle.machine.specs.All.{cases, ℕ, zero, suc, ◌+◌, ◌-◌, ◌*◌, ◌%◌, ◌≤◌, ◌<◌, arith, false, List, [], ◌∷◌, ◌++◌, Option, none, some, ◌≡◌, refl, sym, ap, ◌∙◌, subst, eqb-true, eqb-false, ltb-true, ltb-false, eq-eqb, ne_eqb, eqb, length, get_or, length-append, List·getD-eq-default, Term, Relation, Sum, nothing, Condition, always, when_true, facility, storage, Block, terminate, wait_terms, facts, BlockModel, block_at, Each, WaitWithin, Through, Bool, true}
+use Rattle.machine.specs.All.{cases, ℕ, zero, suc, ◌+◌, ◌-◌, ◌*◌, ◌%◌, ◌≤◌, ◌<◌, arith, false, List, [], ◌∷◌, ◌++◌, Option, none, some, ◌≡◌, refl, sym, ap, ◌∙◌, subst, eqb-true, eqb-false, ltb-true, ltb-false, eq-eqb, ne_eqb, eqb, length, get_or, length-append, get_or-eq_default, Term, Relation, Sum, nothing, Condition, always, when_true, facility, storage, Block, terminate, wait_terms, facts, BlockModel, block_at, Each, WaitWithin, Through, Bool, true}
 use Rattle.layout.specs.All.{block_forms, relation_number, term_numbers, sum_numbers, block_numbers, At, terms, signed_terms}
 use Rattle.layout.specs.Layout as Layout
 use Rattle.layout.proofs.BlockKinds.{Kinds, generating, taking, waiting, arriving, preempting, other, kinds, unasked}
@@ -223,7 +223,7 @@ module _ {m : BlockModel} {tables : List ℕ} (stored : Stored m tables) where
     waits-within marks after size keeps n =
         cases _
         (λ e. within (facts _).waits_while (waits-marked _ (omega arith) marks size _ (ltb-true _ _ e)))
-        (λ e. rw (List·getD-eq-default m.blocks (terminate 0) (ltb-false (n - 1) (length m.blocks) e)) (unfold facts in tt))
+        (λ e. rw (get_or-eq_default m.blocks (terminate 0) (ltb-false (n - 1) (length m.blocks) e)) (unfold facts in tt))
       where
         all : (l : List ℕ) → Each (λ c. get_or (waits_marks tables values (length m.blocks) marks) c 0 ≡ 1) l
             → Each (λ c. get_or after c 0 ≡ 1) l

@@ -1,5 +1,5 @@
 -- `decode::formed_model` meets its contract: the model, and then the two questions asked of the whole.
-use Rattle.machine.specs.All.{sym, ◌∙◌, not_true, not_false, needs}
+use Rattle.machine.specs.All.{sym, ◌∙◌, not-true, not-false, needs}
 use Rattle.decode.proofs as our
 use our.Models.{formed-stop, few-blocks, formed_long, formed_misplaced, formed-target, formed_name, formed-broken, formed-model}
 use our.formed_model as f
@@ -22,7 +22,7 @@ returns-position-is-not-len c =
     let at-m : f.Tie.After-m = search in
     let at-model : f.Tie.After-model = search in
     formed_misplaced _ at-model.model.ensures at-m.m.given.1 at-else1.if1.left
-    (sym c.before.well-placed.ensures ∙ not_true _ c.if2.taken)
+    (sym c.before.well-placed.ensures ∙ not-true _ c.if2.taken)
 
 targets-move-requires : f.Tie.Need-targets-move-requires
 targets-move-requires c κs =
@@ -38,8 +38,8 @@ returns-not-well-placed c =
     let at-m : f.Tie.After-m = search in
     let at-model : f.Tie.After-model = search in
     formed-target _ at-model.model.ensures at-m.m.given.1 at-else1.if1.left
-    (sym at-well-placed.well-placed.ensures ∙ not_false _ at-else2.if2.left)
-    (sym c.before.targets-move.ensures ∙ not_true _ c.if3.taken)
+    (sym at-well-placed.well-placed.ensures ∙ not-false _ at-else2.if2.left)
+    (sym c.before.targets-move.ensures ∙ not-true _ c.if3.taken)
 
 returns-not-targets-move : f.Tie.Need-returns-4
 returns-not-targets-move c =
@@ -51,8 +51,8 @@ returns-not-targets-move c =
     let at-m : f.Tie.After-m = search in
     let at-model : f.Tie.After-model = search in
     formed_name _ at-model.model.ensures at-m.m.given.1 at-else1.if1.left
-    (sym at-well-placed.well-placed.ensures ∙ not_false _ at-else2.if2.left)
-    (sym at-targets-move.targets-move.ensures ∙ not_false _ at-else3.if3.left) c.if4.taken
+    (sym at-well-placed.well-placed.ensures ∙ not-false _ at-else2.if2.left)
+    (sym at-targets-move.targets-move.ensures ∙ not-false _ at-else3.if3.left) c.if4.taken
 
 groups-whole-requires : f.Tie.Need-groups-whole-requires
 groups-whole-requires c κs =
@@ -71,9 +71,9 @@ returns-count-below-named c =
     let at-m : f.Tie.After-m = search in
     let at-model : f.Tie.After-model = search in
     formed-broken _ at-model.model.ensures at-m.m.given.1 at-else1.if1.left
-    (sym at-well-placed.well-placed.ensures ∙ not_false _ at-else2.if2.left)
-    (sym at-targets-move.targets-move.ensures ∙ not_false _ at-else3.if3.left) at-else4.if4.left
-    (sym c.before.groups-whole.ensures ∙ not_true _ c.if5.taken)
+    (sym at-well-placed.well-placed.ensures ∙ not-false _ at-else2.if2.left)
+    (sym at-targets-move.targets-move.ensures ∙ not-false _ at-else3.if3.left) at-else4.if4.left
+    (sym c.before.groups-whole.ensures ∙ not-true _ c.if5.taken)
 
 returns-not-groups-whole : f.Tie.Need-returns-6
 returns-not-groups-whole c =
@@ -91,9 +91,9 @@ returns-read c =
     let at-m : f.Tie.After-m = search in
     let at-model : f.Tie.After-model = search in
     formed-model _ at-model.model.ensures at-m.m.given.1 at-else1.if1.left
-    (sym at-well-placed.well-placed.ensures ∙ not_false _ at-else2.if2.left)
-    (sym at-targets-move.targets-move.ensures ∙ not_false _ at-else3.if3.left) at-else4.if4.left
-    (sym c.before.groups-whole.ensures ∙ not_false _ c.if5.left)
+    (sym at-well-placed.well-placed.ensures ∙ not-false _ at-else2.if2.left)
+    (sym at-targets-move.targets-move.ensures ∙ not-false _ at-else3.if3.left) at-else4.if4.left
+    (sym c.before.groups-whole.ensures ∙ not-false _ c.if5.left)
 
 pub formed-model-spec : {M : Type 1} → f.Statement.statement M
 formed-model-spec =

@@ -1,5 +1,5 @@
 -- `join::pair` meets its contract: 61, 62, or both outputs.
-use Rattle.machine.specs.All.{length, refl, sym, ◌∙◌, not_true, not_false, leb-true, needs}
+use Rattle.machine.specs.All.{length, refl, sym, ◌∙◌, not-true, not-false, leb-true, needs}
 use Rattle.join.proofs as our
 use our.Outputs.{sum_fits, may-join-asked, not-joinable, no-tape-room, no-model-room, both-written}
 use our.pair as f
@@ -21,7 +21,7 @@ returns c =
     with.out-tape.now
     (may-join-asked with.tables1.now with.a with.tables2.now with.b _ _ _
     at-number.number.ensures at-number2.number2.ensures c.before.may-join.ensures
-    ∙ not_true _ c.if1.taken)
+    ∙ not-true _ c.if1.taken)
 
 returns-2 : f.Tie.Need-returns-2
 returns-2 c =
@@ -35,8 +35,8 @@ returns-2 c =
     with.out-tape.now
     (may-join-asked with.tables1.now with.a with.tables2.now with.b _ _ _
     at-number.number.ensures at-number2.number2.ensures
-    at-may-join.may-join.ensures ∙ not_false _ at-else1.if1.left)
-    (sym c.before.room_for.ensures ∙ not_true _ c.if2.taken)
+    at-may-join.may-join.ensures ∙ not-false _ at-else1.if1.left)
+    (sym c.before.room_for.ensures ∙ not-true _ c.if2.taken)
 
 joined-model-requires : f.Tie.Need-joined-model-requires
 joined-model-requires c κs =
@@ -52,7 +52,7 @@ joined-model-requires c κs =
     at-number.number.ensures
     at-number2.number2.ensures
     at-may-join.may-join.ensures
-    ∙ not_false _ at-else1.if1.left in
+    ∙ not-false _ at-else1.if1.left in
     ((ready.first, ready.second), ready.room (search needs) (search needs) may)
 
 returns-3 : f.Tie.Need-returns-3
@@ -70,7 +70,7 @@ returns-3 c =
     at-number.number.ensures
     at-number2.number2.ensures
     at-may-join.may-join.ensures
-    ∙ not_false _ at-else1.if1.left)
+    ∙ not-false _ at-else1.if1.left)
     _ at-joined-model.joined-model.ensures.1 _ at-joined-model.joined-model.ensures.0 c.if3.taken
 
 end-to-end-requires : f.Tie.Need-end-to-end-requires
@@ -80,7 +80,7 @@ end-to-end-requires c κs =
     let start : f.Tie.Start = at-room-for.before.before.before.before.before.before.before.before.before.before.before in
     leb-true _
     (length
-    start.args.out-tape.now) (sym at-room-for.room_for.ensures ∙ not_false _ at-else2.if2.left)
+    start.args.out-tape.now) (sym at-room-for.room_for.ensures ∙ not-false _ at-else2.if2.left)
 
 add : f.Tie.Need-add-t29
 add c =
@@ -91,7 +91,7 @@ add c =
     record {
       fits = sum_fits with.tape1.now with.tape2.now (length with.out-tape.now)
           (sym at-room-for.room_for.ensures
-          ∙ not_false _ at-else2.if2.left)
+          ∙ not-false _ at-else2.if2.left)
           (search (start.good.1.1.1.1.1.1.1, needs));
     }
 
@@ -111,11 +111,11 @@ returns-4 c =
     both-written with.tables1.now with.a with.tables2.now with.b with.tape1.now with.tape2.now with.out-model.now
     with.out-tape.now
     (may-join-asked with.tables1.now with.a with.tables2.now with.b _ _ _
-    at-number.number.ensures at-number2.number2.ensures at-may-join.may-join.ensures ∙ not_false _ at-else1.if1.left)
+    at-number.number.ensures at-number2.number2.ensures at-may-join.may-join.ensures ∙ not-false _ at-else1.if1.left)
     _ at-joined-model.joined-model.ensures.1 _ _ _
     at-joined-model.joined-model.ensures.0 at-else3.if3.left
     (sym at-room-for.room_for.ensures
-    ∙ not_false _ at-else2.if2.left) refl
+    ∙ not-false _ at-else2.if2.left) refl
     at-end-to-end.end_to_end.ensures
 
 pub pair_spec : {M : Type 1} → f.Statement.statement M

@@ -1,5 +1,5 @@
 -- The two parts of `join_models`: each stands inside the joined model, and they face each other.
-use Rattle.machine.specs.All.{ℕ, suc, ◌+◌, ◌-◌, ◌≤◌, ◌<◌, ◌≡◌, refl, sym, ap, ◌∙◌, Bool, true, false, ◌||◌, true≢false, List, [], ◌∷◌, ◌++◌, map, append-nil, arith, ltb, leb, eqb, length, length-append, length-map, List·getD-map, List·getD-append, List·getD-eq-default, ltb-true, ltb-false, leb-true, leb-false, ne_eqb, max_back, any_of, bit, Block, generate, advance, terminate, takes, frees, wait_server, wait_terms, moves, assign, priority, split, counts, assemble, preempt, give_back, facts, above_one, BlockModel, block_at, back_at, begins_group, compared, always, when_true, Each, ap₂, get_or}
+use Rattle.machine.specs.All.{ℕ, suc, ◌+◌, ◌-◌, ◌≤◌, ◌<◌, ◌≡◌, refl, sym, ap, ◌∙◌, Bool, true, false, ◌||◌, true≢false, List, [], ◌∷◌, ◌++◌, map, append-nil, arith, ltb, leb, eqb, length, length-append, length-map, get_or-map, get_or-append, get_or-eq_default, ltb-true, ltb-false, leb-true, leb-false, ne_eqb, max_back, any_of, bit, Block, generate, advance, terminate, takes, frees, wait_server, wait_terms, moves, assign, priority, split, counts, assemble, preempt, give_back, facts, above_one, BlockModel, block_at, back_at, begins_group, compared, always, when_true, Each, ap₂, get_or}
 use Rattle.machine.proofs.Decoding.Proper.{Names, servers, Proper}
 use Rattle.machine.proofs.{Lists.Sums.up_to_cong, Decoding.Groups.blocks-placed, Decoding.Groups.back-within, Runs.Placed.goes_on}
 use Rattle.joined.specs.{Part, first, second, block_in, join_models, in_part, server_in, sum_in}
@@ -179,10 +179,10 @@ module _ (m₁ m₂ : BlockModel) where
   pub block-first : (b : ℕ) → b ≤ length m₁.blocks → 1 ≤ b → block_at (join_models m₁ m₂) b ≡ block_in q₁ (block_at m₁ b)
   unfolding join_models
   block-first b h one =
-      List·getD-append (map (block_in q₁) m₁.blocks) (map (block_in q₂) m₂.blocks) (terminate 0) (b - 1)
+      get_or-append (map (block_in q₁) m₁.blocks) (map (block_in q₂) m₂.blocks) (terminate 0) (b - 1)
       (omega (arith, length-map m₁.blocks (block_in q₁)))
       ∙ ap (get_or (map (block_in q₁) m₁.blocks) (b - 1)) (sym (nothing_in q₁))
-      ∙ List·getD-map (block_in q₁) m₁.blocks (b - 1) (terminate 0)
+      ∙ get_or-map (block_in q₁) m₁.blocks (b - 1) (terminate 0)
 
   -- also behind the last
   pub block-second : (b : ℕ) → 1 ≤ b → block_at (join_models m₁ m₂) (b + length m₁.blocks) ≡ block_in q₂ (block_at m₂ b)
@@ -191,7 +191,7 @@ module _ (m₁ m₂ : BlockModel) where
       ap (λ (i : ℕ). get_or (map (block_in q₁) m₁.blocks ++ map (block_in q₂) m₂.blocks) i (terminate 0)) index
       ∙ get_or-behind (map (block_in q₁) m₁.blocks) (map (block_in q₂) m₂.blocks) (b - 1) (terminate 0)
       ∙ ap (get_or (map (block_in q₂) m₂.blocks) (b - 1)) (sym (nothing_in q₂))
-      ∙ List·getD-map (block_in q₂) m₂.blocks (b - 1) (terminate 0)
+      ∙ get_or-map (block_in q₂) m₂.blocks (b - 1) (terminate 0)
     where
       index : b + length m₁.blocks - 1 ≡ b - 1 + length (map (block_in q₁) m₁.blocks)
       index = omega (arith, length-map m₁.blocks (block_in q₁))
@@ -216,7 +216,7 @@ module _ (m₁ m₂ : BlockModel) where
   -- behind the last block there is no group
   pub back-past : (m : BlockModel) (b : ℕ) → length m.blocks < b → back_at m b ≡ 0
   unfolding facts
-  back-past m b h = ap (λ (x : Block). (facts x).back) (List·getD-eq-default m.blocks (terminate 0) (omega arith))
+  back-past m b h = ap (λ (x : Block). (facts x).back) (get_or-eq_default m.blocks (terminate 0) (omega arith))
 
   module _ {t₁ t₂ : List (List ℕ)} (proper₁ : Proper m₁ t₁) (proper₂ : Proper m₂ t₂) where
     -- a block that is so far behind b cannot be closed by a group that begins at or before b

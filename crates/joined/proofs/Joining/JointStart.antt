@@ -1,5 +1,5 @@
 -- The starts of the joined run and of its parts are related.
-use Rattle.machine.specs.All.{ℕ, zero, suc, ◌+◌, ◌-◌, ◌*◌, ◌≤◌, ◌<◌, ◌≡◌, refl, sym, ◌∙◌, subst, true, false, true≢false, List, [], ◌++◌, map, none, arith, length, get_or, replicate, length-replicate, length-append, length-map, get_or-replicate, List·getD-append, List·getD-map, Transaction, Gatherer, those, idle_server, empty_queue, Block, terminate, BlockModel, State, start_at, idle, start, waits_on, Each, ap, ap₂, ◌∷◌, Server, Queue}
+use Rattle.machine.specs.All.{ℕ, zero, suc, ◌+◌, ◌-◌, ◌*◌, ◌≤◌, ◌<◌, ◌≡◌, refl, sym, ◌∙◌, subst, true, false, true≢false, List, [], ◌++◌, map, none, arith, length, get_or, replicate, length-replicate, length-append, length-map, get_or-replicate, get_or-append, get_or-map, Transaction, Gatherer, those, idle_server, empty_queue, Block, terminate, BlockModel, State, start_at, idle, start, waits_on, Each, ap, ap₂, ◌∷◌, Server, Queue}
 use Rattle.machine.proofs.Decoding.Proper.{Names, servers, ProperBlock, Proper}
 use Rattle.machine.proofs.{Runs.Shape.wel-below, NobodyAble.WaitsKept.waits_start, Basic.Lists.same_at}
 use Rattle.joined.specs.{Part, first, second, server_in, block_in, join_models, join_tapes}
@@ -57,7 +57,7 @@ module _ (p : Part) (m M : BlockModel) (tape tape' : List (List ℕ)) (R : Rooms
           (get_or (capacities m) i 0)
       row m i =
           ap (λ (l : List Server). get_or l i (idle_server 0)) (idle-servers m.facilities m.capacities)
-          ∙ List·getD-map idle_server (capacities m) i 0
+          ∙ get_or-map idle_server (capacities m) i 0
 
   servers-number : (m : BlockModel) → length (replicate m.facilities (idle_server 1) ++ map idle_server m.capacities) ≡ servers m
   servers-number m =
@@ -166,7 +166,7 @@ module _ (p : Part) (m M : BlockModel) (tape tape' : List (List ℕ)) (R : Rooms
 -- ---- Those of the two parts
 
 facility-row : (n i : ℕ) (l : List ℕ) → i < n → get_or (replicate n 1 ++ l) i 0 ≡ 1
-facility-row n i l h = List·getD-append (replicate n 1) l 0 i (omega (arith, length-replicate {A = ℕ} n 1)) ∙ get_or-replicate n i 1 0 h
+facility-row n i l h = get_or-append (replicate n 1) l 0 i (omega (arith, length-replicate {A = ℕ} n 1)) ∙ get_or-replicate n i 1 0 h
 
 storage-row : (n k : ℕ) (l : List ℕ) → get_or (replicate n 1 ++ l) (k + n) 0 ≡ get_or l k 0
 storage-row n k l =
@@ -195,7 +195,7 @@ module _ (m₁ m₂ : BlockModel) {t₁ t₂ : List (List ℕ)} (proper₁ : Pro
           let a : u - m₁.facilities - 1 + m₁.facilities ≡ u - 1 = omega arith in
           let b : u - m₁.facilities - 1 + (m₁.facilities + m₂.facilities) ≡ server_in p₁ u - 1 = omega arith in
           ap (λ (j : ℕ). get_or (capacities m₁) j 0) (sym a) ∙ storage-row m₁.facilities (u - m₁.facilities - 1) m₁.capacities
-          ∙ sym (List·getD-append m₁.capacities m₂.capacities 0 (u - m₁.facilities - 1) (omega (arith, i.1)))
+          ∙ sym (get_or-append m₁.capacities m₂.capacities 0 (u - m₁.facilities - 1) (omega (arith, i.1)))
           ∙ sym (storage-row (m₁.facilities + m₂.facilities) (u - m₁.facilities - 1) (m₁.capacities ++ m₂.capacities))
           ∙ ap (λ (j : ℕ). get_or (replicate (m₁.facilities + m₂.facilities) 1 ++ (m₁.capacities ++ m₂.capacities)) j 0) b
 
@@ -245,7 +245,7 @@ module _ (m₁ m₂ : BlockModel) {t₁ t₂ : List (List ℕ)} (proper₁ : Pro
         capacity = capacity₁;
         times =
             λ l i. sym
-            (ap (λ (j : ℕ). get_or (t₁ ++ t₂) j []) (less l) ∙ List·getD-append t₁ t₂ [] (l - 1) (omega (arith, i.0, i.1, proper₁.tapes)));
+            (ap (λ (j : ℕ). get_or (t₁ ++ t₂) j []) (less l) ∙ get_or-append t₁ t₂ [] (l - 1) (omega (arith, i.0, i.1, proper₁.tapes)));
       }
     where
       less : (l : ℕ) → l + 0 - 1 ≡ l - 1
@@ -294,7 +294,7 @@ module _ (m₁ m₂ : BlockModel) {t₁ t₂ : List (List ℕ)} (proper₁ : Pro
 
   image-at : (p : Part) (l : List Block) (i : ℕ) → get_or (map (block_in p) l) i (terminate 0) ≡ block_in p (get_or l i (terminate 0))
   unfolding block_in
-  image-at p l i = List·getD-map (block_in p) l i (terminate 0)
+  image-at p l i = get_or-map (block_in p) l i (terminate 0)
 
   module _ (I₁ : Inside p₁ m₁ (join_models m₁ m₂)) (I₂ : Inside p₂ m₂ (join_models m₁ m₂)) (F₁ : Facing p₁ m₁ p₂ m₂ (join_models m₁ m₂))
       (F₂ : Facing p₂ m₂ p₁ m₁ (join_models m₁ m₂)) where

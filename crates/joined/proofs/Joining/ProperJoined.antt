@@ -1,5 +1,5 @@
 -- The joined model and tape are proper where those of the parts are and no limit is passed.
-use Rattle.machine.specs.All.{ℕ, zero, suc, ◌+◌, ◌-◌, ◌≤◌, ◌<◌, ◌≡◌, refl, sym, subst, Bool, true, false, ◌&&◌, List, [], ◌∷◌, ◌++◌, arith, length, get_or, length-append, List·getD-append, leb-true, leb-false, eqb-true, Code, U, NU, E, NE, F, NF, facility, storage, Block, generate, advance, terminate, takes, frees, wait_server, wait_terms, moves, assign, priority, split, counts, assemble, preempt, give_back, BlockModel, block_at, ap, ap₂, ◌∙◌, leb}
+use Rattle.machine.specs.All.{ℕ, zero, suc, ◌+◌, ◌-◌, ◌≤◌, ◌<◌, ◌≡◌, refl, sym, subst, Bool, true, false, ◌&&◌, List, [], ◌∷◌, ◌++◌, arith, length, get_or, length-append, get_or-append, leb-true, leb-false, eqb-true, Code, U, NU, E, NE, F, NF, facility, storage, Block, generate, advance, terminate, takes, frees, wait_server, wait_terms, moves, assign, priority, split, counts, assemble, preempt, give_back, BlockModel, block_at, ap, ap₂, ◌∙◌, leb}
 use Rattle.machine.specs.Limits as Limits
 use Rattle.machine.proofs.Decoding.Proper.{Names, Storage, CodeServer, Units, ProperBlock, Proper}
 use Rattle.machine.proofs.Basic.Bools.{and_true}
@@ -109,7 +109,7 @@ module _ (m₁ m₂ : BlockModel) where
           u.0,
           λ k e.
               let at : v ≡ m₁.facilities + k = omega (arith, in-storage p₁ v h.0) in
-              rw (List·getD-append m₁.capacities m₂.capacities 0 (k - 1) (omega (arith, h.0, h.1))) (u.1 k at),
+              rw (get_or-append m₁.capacities m₂.capacities 0 (k - 1) (omega (arith, h.0, h.1))) (u.1 k at),
         );
         list_in = λ l h. (omega (arith, h.0), omega (arith, h.1));
         queue_in = λ q h. (omega (arith, h.0), omega (arith, h.1));

@@ -1,5 +1,5 @@
 -- Two parts of one joined model: what is of the one is not of the other.
-use Rattle.machine.specs.All.{ℕ, suc, ◌+◌, ◌-◌, ◌≤◌, ◌≡◌, refl, sym, ap, ◌∙◌, Bool, true, false, cond, ◌&&◌, true≢false, List, [], ◌∷◌, arith, ltb, length, get_or, List·getD-eq-default, eqb-true, ltb-true, ltb-false, Transaction, Event, those, nth, Server, View, idle_server, server_at, Condition, always, when_true, Code, facility, storage, share_server, Block, generate, advance, terminate, takes, frees, wait_server, wait_terms, moves, assign, priority, split, counts, assemble, preempt, give_back, facts, BlockModel, block_at, wel_index, unconditional, State, ql_of, wel_of, loses_to, Each, ◌<◌, not, eqb}
+use Rattle.machine.specs.All.{ℕ, suc, ◌+◌, ◌-◌, ◌≤◌, ◌≡◌, refl, sym, ap, ◌∙◌, Bool, true, false, cond, ◌&&◌, true≢false, List, [], ◌∷◌, arith, ltb, length, get_or, get_or-eq_default, eqb-true, ltb-true, ltb-false, Transaction, Event, those, nth, Server, View, idle_server, server_at, Condition, always, when_true, Code, facility, storage, share_server, Block, generate, advance, terminate, takes, frees, wait_server, wait_terms, moves, assign, priority, split, counts, assemble, preempt, give_back, facts, BlockModel, block_at, wel_index, unconditional, State, ql_of, wel_of, loses_to, Each, ◌<◌, not, eqb}
 use Rattle.machine.proofs.Decoding.Proper.{Names, servers, ProperBlock, code-server, share-server}
 use Rattle.machine.proofs.Basic.Each.{each_map, each-pair}
 use Rattle.joined.specs.{Part, server_in, share_in, condition_in, block_in, in_part}
@@ -254,7 +254,7 @@ module _ (p : Part) (m : BlockModel) (p' : Part) (m' M : BlockModel) (F : Facing
             ∙ ap (λ (x : Server). ltb 0 x.in_use) (server-at q.view f ∙ default-at past) ∙ idle-free)
           where
             default-at : servers M ≤ f - 1 → get_or q.view.servers (f - 1) (idle_server 0) ≡ idle_server 0
-            default-at past = List·getD-eq-default q.view.servers (idle_server 0) (omega (arith, long))
+            default-at past = get_or-eq_default q.view.servers (idle_server 0) (omega (arith, long))
 
     -- who stands on lists of the other part is of the other part, since lists hold those who stand at their block
     pub strange : (t : Transaction) → Known p' (size p' m') N' t → length q.view.servers ≡ servers M

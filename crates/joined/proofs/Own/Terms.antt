@@ -1,5 +1,5 @@
 -- A term of the part is worth in the joined model what it is worth in the part alone, where it names only what the part has and no clock.
-use Rattle.machine.specs.All.{ℕ, suc, ◌+◌, ◌-◌, ◌≤◌, ◌<◌, ◌≡◌, refl, sym, ap, ap₂, ◌∙◌, List, [], ◌∷◌, ◌++◌, map, append_assoc, append-nil, arith, ltb, length, get_or, length-append, List·getD-append, nth, View, Term, constant, minus_constant, parameter, clock_term, entries_of, content_of, units_in_use, units_free, facility_in_use, value, comparison, bracket, Sum, nothing, plus, minus, term, sum, worths, evaluate, compare, truth, Condition, always, when_true, related, wrap, one_if, server_at, queue_at, BlockModel, Each}
+use Rattle.machine.specs.All.{ℕ, suc, ◌+◌, ◌-◌, ◌≤◌, ◌<◌, ◌≡◌, refl, sym, ap, ap₂, ◌∙◌, List, [], ◌∷◌, ◌++◌, map, append_assoc, append-nil, arith, ltb, length, get_or, length-append, get_or-append, nth, View, Term, constant, minus_constant, parameter, clock_term, entries_of, content_of, units_in_use, units_free, facility_in_use, value, comparison, bracket, Sum, nothing, plus, minus, term, sum, worths, evaluate, compare, truth, Condition, always, when_true, related, wrap, one_if, server_at, queue_at, BlockModel, Each}
 use lib.IntN.{ℤ, pos, ◌+ℤ◌, ◌-ℤ◌}
 use Rattle.machine.proofs.Decoding.Proper.{Names, servers}
 use Rattle.joined.specs.{Part, term_in, sum_in, condition_in}
@@ -89,7 +89,7 @@ module _ (w : View) (q : List ℤ) where
   worths-stay [] low i lt = refl
   worths-stay (e ∷ a) low i lt =
       worths-stay a _ i (omega (arith, length-append low (sum w q low e (pos 0) ∷ [])))
-      ∙ List·getD-append low (sum w q low e (pos 0) ∷ []) (pos 0) i lt
+      ∙ get_or-append low (sum w q low e (pos 0) ∷ []) (pos 0) i lt
 
 -- the values of the part among those of the joined model
 pub record Values (p : Part) (m M : BlockModel) : Type 0 where

@@ -1,5 +1,5 @@
 -- A turn that ends nothing: who is taken, one block, the WS scheme; of any model.
-use Rattle.machine.specs.All.{ℕ, zero, suc, ◌≡◌, refl, true, not, List, [], ◌∷◌, Option, none, some, arith, eqb, not_true, not_false, Transaction, others, Block, BlockModel, block_at, State, set_moving, set_rel, set_turns, wake_wsl, effect, next_events, take_first, take_ready, taking, answer, execute, waits_on, ws_scheme, turn, Each, sym, ap, ◌∙◌, subst, eq-eqb, set_end}
+use Rattle.machine.specs.All.{ℕ, zero, suc, ◌≡◌, refl, true, not, List, [], ◌∷◌, Option, none, some, arith, eqb, not-true, not-false, Transaction, others, Block, BlockModel, block_at, State, set_moving, set_rel, set_turns, wake_wsl, effect, next_events, take_first, take_ready, taking, answer, execute, waits_on, ws_scheme, turn, Each, sym, ap, ◌∙◌, subst, eq-eqb, set_end}
 use Rattle.machine.proofs.{Basic.Bools.cond_cases, Basic.Each.each_map, Basic.Each.each-passes}
 
 module _ (m : BlockModel) where
@@ -53,7 +53,7 @@ module _ (m : BlockModel) where
   pub waits-on : (s : State) → Each (λ t. waits_on m (settled s).view t ≡ true) (settled s).wsl
   unfolding wake_wsl
   waits-on s =
-      each_map (λ t h. not_false _ (not_true _ h)) (others (λ t. not (waits_on m s.view t)) s.wsl)
+      each_map (λ t h. not-false _ (not-true _ h)) (others (λ t. not (waits_on m s.view t)) s.wsl)
       (each-passes (λ t. not (not (waits_on m s.view t))) s.wsl)
 
 -- ---- The taking

@@ -1,10 +1,10 @@
 -- `count` meets its contract: past the end `get_or` gives 0. Assumes nothing.
-use Rattle.machine.specs.All.{sym, needs, List·getD-eq-default}
+use Rattle.machine.specs.All.{sym, needs, get_or-eq_default}
 use Rattle.layout.proofs.count as f
 
 returns-last : f.Tie.Need-returns-2
 returns-last c =
-    sym (List·getD-eq-default c.before.args.tally.now _ c.if1.left)
+    sym (get_or-eq_default c.before.args.tally.now _ c.if1.left)
 
 pub count_spec : {M : Type 1} → f.Statement.statement M
 count_spec = f.Tie.close (f.Tie.spec

@@ -4,13 +4,13 @@
 use Rattle.machine.specs.All.{ℕ, suc, ◌+◌, ◌-◌, ◌≡◌, refl, sym, Bool, true, false, not, ◌&&◌, List, [], ◌∷◌, eqb-true, eqb-false, ltb, eqb, leb, Transaction, Event, Gatherer, Interrupted, Term, Relation, free, server_at, compare, Code, U, NU, E, NE, F, NF, status, Share, share_server, share_units, share_holder, facility, Block, wait_server, wait_terms, assemble, preempt, give_back, facts, BlockModel, State, enters, move_to, go_on_lem, to_ql, to_wel, to_wsl, begin_wait, must_wait, wake_first_wel, wake_wsl, times_left, arrival, waits_for, to_gatherers, comes, released, interrupted_at, losers_to, interrupt, resume, set_use, set_holder, set_ended, check_wel, check_wels, stamped, wake_for, free_units, gathers, gives_back, effect, take_units, gathering, waits_on, ws_scheme, start_of, is_generate}
 use Rattle.machine.proofs.Basic.Bools.{cond_cases}
 
-not_true : (b : Bool) → not b ≡ true → b ≡ false
-not_true true e = sym e
-not_true false e = refl
+not-true : (b : Bool) → not b ≡ true → b ≡ false
+not-true true e = sym e
+not-true false e = refl
 
-not_false : (b : Bool) → not b ≡ false → b ≡ true
-not_false true e = refl
-not_false false e = sym e
+not-false : (b : Bool) → not b ≡ false → b ≡ true
+not-false true e = refl
+not-false false e = sym e
 
 module _ (Q : State → Type 0) where
   pub check_wel-cases : (v : ℕ) (code : Code) (s : State)
@@ -110,4 +110,4 @@ module _ (Q : State → Type 0) where
       → Q (start_of b n s)
   unfolding start_of
   start_of-cases b n s f g =
-      cond_cases Q (is_generate (facts b)) _ _ (λ e. g (eqb-false _ _ (not_true _ e))) (λ e. f (eqb-true _ _ (not_false _ e)))
+      cond_cases Q (is_generate (facts b)) _ _ (λ e. g (eqb-false _ _ (not-true _ e))) (λ e. f (eqb-true _ _ (not-false _ e)))

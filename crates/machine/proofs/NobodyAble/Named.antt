@@ -1,6 +1,6 @@
 -- What a comparison reads: the things that its terms name, through values. Over two views that agree on a set of things, and with the same
 -- parameters where the set has them, a comparison whose terms name only things of the set gives the same.
-use Rattle.machine.specs.All.{ℕ, zero, suc, ◌+◌, ◌-◌, ◌<◌, ◌≡◌, refl, sym, ap, ap₂, subst, ◌∙◌, Bool, true, false, List, [], ◌∷◌, ◌++◌, Option, none, some, arith, ltb, length, get_or, length-append, List·getD-eq-default, ltb-true, ltb-false, Transaction, idle_server, empty_queue, View, server_at, queue_at, wrap, related, Relation, Term, constant, minus_constant, parameter, clock_term, entries_of, content_of, units_in_use, units_free, facility_in_use, value, comparison, bracket, Sum, nothing, plus, minus, one_if, term, sum, worths, evaluate, compare, Condition, always, when_true, truth, facts, BlockModel, holds, waits_on, Thing, own, the_clock, entry, queue, server, worth, Within, SumWithin, WaitWithin, Through, Watches, block_at}
+use Rattle.machine.specs.All.{ℕ, zero, suc, ◌+◌, ◌-◌, ◌<◌, ◌≡◌, refl, sym, ap, ap₂, subst, ◌∙◌, Bool, true, false, List, [], ◌∷◌, ◌++◌, Option, none, some, arith, ltb, length, get_or, length-append, get_or-eq_default, ltb-true, ltb-false, Transaction, idle_server, empty_queue, View, server_at, queue_at, wrap, related, Relation, Term, constant, minus_constant, parameter, clock_term, entries_of, content_of, units_in_use, units_free, facility_in_use, value, comparison, bracket, Sum, nothing, plus, minus, one_if, term, sum, worths, evaluate, compare, Condition, always, when_true, truth, facts, BlockModel, holds, waits_on, Thing, own, the_clock, entry, queue, server, worth, Within, SumWithin, WaitWithin, Through, Watches, block_at}
 use lib.IntN.{ℤ, pos, ◌+ℤ◌, ◌-ℤ◌}
 
 -- one more worth behind others
@@ -48,8 +48,8 @@ module _ (S : Thing → Type 0) where
       mentioned : (k : ℕ) → (k < length l → S (worth k)) → (b : Bool) → ltb k (length l) ≡ b → get_or l k (pos 0) ≡ get_or l' k (pos 0)
       mentioned k h true e = lower k (h (ltb-true k (length l) e))
       mentioned k h false e =
-          List·getD-eq-default l (pos 0) (ltb-false k (length l) e)
-          ∙ sym (List·getD-eq-default l' (pos 0) (omega (arith, size, ltb-false k (length l) e)))
+          get_or-eq_default l (pos 0) (ltb-false k (length l) e)
+          ∙ sym (get_or-eq_default l' (pos 0) (omega (arith, size, ltb-false k (length l) e)))
 
       mutual
         unfolding term sum server_at queue_at

@@ -1,5 +1,5 @@
 -- REL and the QLs, block by block: how SEIZE, RELEASE, ENTER and LEAVE keep `Queued`, for the one that moves, t, in front of REL.
-use Rattle.machine.specs.All.{ℕ, ◌+◌, ◌-◌, ◌≤◌, ◌≡◌, refl, sym, ◌∙◌, Bool, false, not, List, [], ◌∷◌, arith, ℕ_discrete, leb, length, take, drop, get_or-set_same, get_or-set_other, set-get_or, leb-false, lt-leb, not_true, Transaction, precedes, others, nth, set_nth, Server, free, facility, storage, share_server, share_units, Block, facts, BlockModel, with_use, line_up, wake, Parted, first_of, part_by, units_of_lem, Each, ap, true, idle_server, block_at, with_returning}
+use Rattle.machine.specs.All.{ℕ, ◌+◌, ◌-◌, ◌≤◌, ◌≡◌, refl, sym, ◌∙◌, Bool, false, not, List, [], ◌∷◌, arith, ℕ_discrete, leb, length, take, drop, get_or-set_same, get_or-set_other, set-get_or, leb-false, lt-leb, not-true, Transaction, precedes, others, nth, set_nth, Server, free, facility, storage, share_server, share_units, Block, facts, BlockModel, with_use, line_up, wake, Parted, first_of, part_by, units_of_lem, Each, ap, true, idle_server, block_at, with_returning}
 use Rattle.machine.proofs as our
 use our.decoding.Proper.{Proper, ProperBlock, servers, Role, generating, taking, preempting, neither, role}
 use our.basic.Each.{Each-map, each-passes}
@@ -149,5 +149,5 @@ module _ {m : BlockModel} {t : Transaction} {rel : List Transaction} {l : List S
       → m.edition ≡ 1 → Kept x (part_by p q)
   fitting-kept x p fits first = (
     sorted-those precedes (λ u. not (p u)) q (w.ql-sorted first (v - 1)),
-    nobody_fits (Each-map (λ u e. fits u (not_true _ e)) (others p q) (each-passes (λ u. not (p u)) q)),
+    nobody_fits (Each-map (λ u e. fits u (not-true _ e)) (others p q) (each-passes (λ u. not (p u)) q)),
   )

@@ -1,5 +1,5 @@
 -- What is known of those who wait is kept by every turn, and holds at the start.
-use Rattle.machine.specs.All.{ℕ, zero, suc, ◌*◌, ◌-◌, ◌≡◌, refl, ◌∙◌, Bool, not, inl, inr, List, [], ◌∷◌, Option, none, some, arith, get_or, replicate, not_true, not_false, Transaction, Event, precedes, those, others, Server, Code, U, NU, E, NE, F, NF, status, Block, BlockModel, block_at, wel_index, State, wake, to_rel, to_fel, arrival, wake_wsl, effect, sample_servers, sample, arrive_all, move_clock, next_events, take_first, take_ready, taking, answer, execute, waits_on, ws_scheme, turn, start_at, idle, start, Each, sym, true, idle_server, set_turns, set_moving, due}
+use Rattle.machine.specs.All.{ℕ, zero, suc, ◌*◌, ◌-◌, ◌≡◌, refl, ◌∙◌, Bool, not, inl, inr, List, [], ◌∷◌, Option, none, some, arith, get_or, replicate, not-true, not-false, Transaction, Event, precedes, those, others, Server, Code, U, NU, E, NE, F, NF, status, Block, BlockModel, block_at, wel_index, State, wake, to_rel, to_fel, arrival, wake_wsl, effect, sample_servers, sample, arrive_all, move_clock, next_events, take_first, take_ready, taking, answer, execute, waits_on, ws_scheme, turn, start_at, idle, start, Each, sym, true, idle_server, set_turns, set_moving, due}
 use Rattle.machine.proofs as our
 use our.decoding.Proper.{Proper, servers}
 use our.basic.Each.{Each-map, each-passes}
@@ -168,7 +168,7 @@ module _ (m : BlockModel) where
       g = grows-wake (those p s.wsl) s.rel
 
       settled : Each (λ t. waits_on m s.view t ≡ true) (others p s.wsl)
-      settled = Each-map (λ t h. not_false _ (not_true _ h)) (others p s.wsl) (each-passes (λ t. not (p t)) s.wsl)
+      settled = Each-map (λ t h. not-false _ (not-true _ h)) (others p s.wsl) (each-passes (λ t. not (p t)) s.wsl)
 
 -- ---- A turn
 

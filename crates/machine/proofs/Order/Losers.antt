@@ -1,5 +1,5 @@
 -- Document 02, item 11: who loses a facility to a PREEMPT had seized it and has a lower priority.
-use Rattle.machine.specs.All.{ℕ, ◌≤◌, ◌<◌, ◌≡◌, refl, sym, Bool, true, false, ◌&&◌, true≢false, List, ◌∷◌, ltb-true, eqb-true, not_true, Transaction, Event, Server, server_at, State, loses_to, losers_to, not, ltb, eqb}
+use Rattle.machine.specs.All.{ℕ, ◌≤◌, ◌<◌, ◌≡◌, refl, sym, Bool, true, false, ◌&&◌, true≢false, List, ◌∷◌, ltb-true, eqb-true, not-true, Transaction, Event, Server, server_at, State, loses_to, losers_to, not, ltb, eqb}
 use Rattle.machine.proofs.Basic.Each.{each-passes}
 
 pub record Loses (t : Transaction) (v : Server) (e : Event) : Type 0 where
@@ -23,4 +23,4 @@ loser-loses t f s e l k =
     let v : Server = server_at s.view f in
     let h = all-four (ltb 0 v.in_use) (not v.preempted) (eqb e.who.number v.holder) (ltb e.who.priority t.priority)
     (rw k at (each-passes (loses_to t v) s.fel)).0 in
-    record { in_use = ltb-true _ _ h.0; seized = not_true _ h.1; number = eqb-true _ _ h.2; lower = ltb-true _ _ h.3 }
+    record { in_use = ltb-true _ _ h.0; seized = not-true _ h.1; number = eqb-true _ _ h.2; lower = ltb-true _ _ h.3 }

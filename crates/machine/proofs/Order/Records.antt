@@ -1,6 +1,6 @@
 -- Open waits: the records of outcome 1 whose transaction has no later record. One record more keeps the order of waits if
 -- it ends no wait behind an equal one that is open still.
-use Rattle.machine.specs.All.{ℕ, suc, ◌+◌, ◌≤◌, ◌<◌, ◌≡◌, refl, sym, ap, subst, ◌∙◌, ◌⊎◌, inl, inr, Bool, true, false, cond, ◌&&◌, List, [], ◌∷◌, ◌++◌, reverse, reverse-cons, arith, T, ltb, eqb, T_not, eqb→eq, length, get_or, drop, length-append, length-drop, List·getD-append, drop-append-le, get_or_at, ltb-true, ltb-false, eqb-true, eq-eqb, those, others, BlockModel, facts, block_at, Logged, no_record_lem, next_record, wait_end, equal_waits, InOrder, facts_at, preempt_names, not}
+use Rattle.machine.specs.All.{ℕ, suc, ◌+◌, ◌≤◌, ◌<◌, ◌≡◌, refl, sym, ap, subst, ◌∙◌, ◌⊎◌, inl, inr, Bool, true, false, cond, ◌&&◌, List, [], ◌∷◌, ◌++◌, reverse, reverse-cons, arith, T, ltb, eqb, T_not, eqb→eq, length, get_or, drop, length-append, length-drop, get_or-append, drop-append-le, get_or_at, ltb-true, ltb-false, eqb-true, eq-eqb, those, others, BlockModel, facts, block_at, Logged, no_record_lem, next_record, wait_end, equal_waits, InOrder, facts_at, preempt_names, not}
 use Rattle.machine.proofs.Basic.Bools.{cond_cases}
 
 -- ---- Members of a list, and pairs in the order of a list
@@ -103,7 +103,7 @@ module _ (l : List Logged) (r : Logged) where
   more = l ++ (r ∷ [])
 
   at_more : (i : ℕ) → i < length l → record_at more i ≡ record_at l i
-  at_more i h = List·getD-append l (r ∷ []) no_record_lem i h
+  at_more i h = get_or-append l (r ∷ []) no_record_lem i h
 
   at_last : (i : ℕ) → i ≡ length l → record_at more i ≡ r
   at_last i d = get_or_at l r [] no_record_lem i (sym d)

@@ -1,6 +1,6 @@
 -- The run, step by step: what holds at the start and is kept by every turn that is taken and by the end before a turn holds in
 -- each state of the run; the last of the states is the run's; every other one has no end.
-use Rattle.machine.specs.All.{ℕ, zero, suc, ◌+◌, ◌≤◌, ◌<◌, ◌≡◌, refl, ap, Bool, true, false, cond, ◌||◌, List, [], ◌∷◌, ◌++◌, arith, eqb-true, eqb-false, eq-eqb, ne_eqb, leb-false, ltb-false, not_true, not_false, T, eqb, get_or, max_serial, max_turns, record_room, any_of, BlockModel, State, set_end, turn, nobody_left, end_before_lem, start, run_from, states_from, run, states, steps, Each, stated_end, Ends, leb, ltb}
+use Rattle.machine.specs.All.{ℕ, zero, suc, ◌+◌, ◌≤◌, ◌<◌, ◌≡◌, refl, ap, Bool, true, false, cond, ◌||◌, List, [], ◌∷◌, ◌++◌, arith, eqb-true, eqb-false, eq-eqb, ne_eqb, leb-false, ltb-false, not-true, not-false, T, eqb, get_or, max_serial, max_turns, record_room, any_of, BlockModel, State, set_end, turn, nobody_left, end_before_lem, start, run_from, states_from, run, states, steps, Each, stated_end, Ends, leb, ltb}
 pub use Rattle.machine.proofs.Basic.Bools.{cond_cases, or_false}
 pub use Rattle.machine.proofs.Basic.Each.{each_map, each-pair, each-under}
 pub use Rattle.machine.proofs.Basic.Lists.{none-at}
@@ -43,8 +43,8 @@ pub data Before (budget room : ℕ) (s : State) : ℕ → Type 0 where
 pub before : (budget room : ℕ) (s : State) → Before budget room s (end_before_lem budget room s)
 unfolding end_before_lem
 before budget room s =
-    cond_cases B _ _ _ (λ e. own (eqb-false _ _ (not_true _ e))) (λ no_end.
-    let z : s.end ≡ 0 = eqb-true _ _ (not_false _ no_end) in
+    cond_cases B _ _ _ (λ e. own (eqb-false _ _ (not-true _ e))) (λ no_end.
+    let z : s.end ≡ 0 = eqb-true _ _ (not-false _ no_end) in
     cond_cases B _ _ _ (λ w. closing (record { no_end = z; dry = λ e. w; stated = tt })) (λ w.
     cond_cases B (ltb max_serial s.serial || leb max_turns s.turns) _ _
     (λ l. closing (record { no_end = z; dry = λ e. absurd (two e); stated = tt })) (λ l.

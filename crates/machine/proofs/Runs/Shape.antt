@@ -1,6 +1,6 @@
 -- The fixtures of the machine keep their shape in every state of a run: as many queue lists, waiting lists, servers, queues,
 -- entries and sample lists as the model says, each server of its capacity and never in use beyond it.
-use Rattle.machine.specs.All.{ℕ, zero, suc, ◌+◌, ◌*◌, ◌-◌, ◌≤◌, ◌<◌, ◌≡◌, refl, sym, ap, ◌∙◌, Bool, true≢false, List, [], ◌∷◌, ◌++◌, map, arith, ltb-true, ltb-false, ltb, length, get_or, set, replicate, length-set, length-map, length-append, length-replicate, get_or-replicate, List·getD-map, List·getD-append, map-set_same, Transaction, Gatherer, nth, set_nth, Server, View, Queue, idle_server, server_at, Code, U, NU, E, NE, F, NF, code_index, assemble, facts, BlockModel, block_at, wel_index, State, with_use, set_clock, set_entries, set_queues, set_servers, set_use, sample_servers, sample_queue, sample, turn, idle, start, Each, true, false, Block, terminate}
+use Rattle.machine.specs.All.{ℕ, zero, suc, ◌+◌, ◌*◌, ◌-◌, ◌≤◌, ◌<◌, ◌≡◌, refl, sym, ap, ◌∙◌, Bool, true≢false, List, [], ◌∷◌, ◌++◌, map, arith, ltb-true, ltb-false, ltb, length, get_or, set, replicate, length-set, length-map, length-append, length-replicate, get_or-replicate, get_or-map, get_or-append, map-set_same, Transaction, Gatherer, nth, set_nth, Server, View, Queue, idle_server, server_at, Code, U, NU, E, NE, F, NF, code_index, assemble, facts, BlockModel, block_at, wel_index, State, with_use, set_clock, set_entries, set_queues, set_servers, set_use, sample_servers, sample_queue, sample, turn, idle, start, Each, true, false, Block, terminate}
 use Rattle.machine.proofs as our
 use our.decoding.Proper.{servers}
 use our.runs.Kept.{Closed, turn-kept, start-kept}
@@ -108,12 +108,12 @@ module _ {m : BlockModel} {w : View} {ql wel : List (List Transaction)} {gathere
 
   capacity-at : (v : ℕ) → (server_at w v).capacity ≡ nth (all_capacities m) v 0
   unfolding server_at idle_server
-  capacity-at v = sym (List·getD-map capacity_of w.servers (v - 1) (idle_server 0)) ∙ ap (λ l. nth l v 0) h.capacities
+  capacity-at v = sym (get_or-map capacity_of w.servers (v - 1) (idle_server 0)) ∙ ap (λ l. nth l v 0) h.capacities
 
   -- a facility is a server of one unit
   pub facility-capacity : (v : ℕ) → 1 ≤ v → v ≤ m.facilities → (server_at w v).capacity ≡ 1
   facility-capacity v low high =
-      capacity-at v ∙ List·getD-append (replicate m.facilities 1) m.capacities 0 (v - 1) (simp length-replicate (omega arith))
+      capacity-at v ∙ get_or-append (replicate m.facilities 1) m.capacities 0 (v - 1) (simp length-replicate (omega arith))
       ∙ get_or-replicate m.facilities (v - 1) 1 0 (omega arith)
 
   pub ql-at : (v : ℕ) → 1 ≤ v → v ≤ servers m → v - 1 < length ql

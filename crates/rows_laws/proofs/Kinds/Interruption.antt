@@ -1,5 +1,5 @@
 -- Document 02, item 11: a row goes from the FEL to a list, and from the head of a list to the FEL.
-use Rattle.machine.specs.All.{ℕ, zero, suc, ◌+◌, ◌≤◌, ◌<◌, ◌≡◌, refl, sym, ap, ◌∙◌, subst, Bool, true, false, cond, not, true≢false, List, [], ◌∷◌, ◌++◌, map, arith, ℕ_discrete, lt-ltb, ltb-true, ltb-false, eq-eqb, eqb-true, eqb-false, not_false, ltb, eqb, length, drop, Transaction, Event, precedes, earlier, insert}
+use Rattle.machine.specs.All.{ℕ, zero, suc, ◌+◌, ◌≤◌, ◌<◌, ◌≡◌, refl, sym, ap, ◌∙◌, subst, Bool, true, false, cond, not, true≢false, List, [], ◌∷◌, ◌++◌, map, arith, ℕ_discrete, lt-ltb, ltb-true, ltb-false, eq-eqb, eqb-true, eqb-false, not-false, ltb, eqb, length, drop, Transaction, Event, precedes, earlier, insert}
 use Rattle.rows_laws.specs.All.{list_count, number_field, slot, place, holder_cell, fel, free, load, store, read, priority_of, sooner, put, first, take_first, schedule, cancel, loses, sooner_row, loser_of, loser_from, loser, keep_holder, is_holder, loser_at, find_loser, transaction_at, event_at, occurs, Heaped, Listed, Holds, update, All, Sorted, Strict, loose, Shows}
 use Rattle.rows_laws.proofs as our
 use our.counting.Occurs.{same_refl, same_pos, occurs-append, occurs-cons}
@@ -37,7 +37,7 @@ part-before : (r : ℕ → ℕ → Bool) (a b : List ℕ) (k : ℕ) → Strict r
 unfolding Sorted All
 part-before r [] b k h = tt
 part-before r (x ∷ a) b k h =
-    (not_false (r x k) (All-append (λ y. not (r x y) ≡ false) a (k ∷ b) h.0).1.0, part-before r a b k h.1)
+    (not-false (r x k) (All-append (λ y. not (r x y) ≡ false) a (k ∷ b) h.0).1.0, part-before r a b k h.1)
 
 module _ (w : List ℕ) (n p : ℕ) (l : List ℕ) (one : Listed w fel l) (strict : Strict (sooner w) l) where
   heap : Heaped w (length l)

@@ -1,5 +1,5 @@
 -- Sorted insertion, over any order: where the new one comes to stand, and that the list stays sorted.
-use Rattle.machine.specs.All.{ℕ, ◌≡◌, refl, sym, ap, ◌∙◌, Bool, true, false, cond, not, List, [], ◌∷◌, ◌++◌, map, arith, not_false, drop, insert, those}
+use Rattle.machine.specs.All.{ℕ, ◌≡◌, refl, sym, ap, ◌∙◌, Bool, true, false, cond, not, List, [], ◌∷◌, ◌++◌, map, arith, not-false, drop, insert, those}
 use Rattle.rows_laws.specs.All.{All, Sorted, Strict}
 
 -- ---- Orders
@@ -148,7 +148,7 @@ module _ {A : Type 0} where
     -- ---- Lists in which everybody stands before those behind
 
     before-all : (x : A) (l : List A) → All (λ y. not (r x y) ≡ false) l → All (λ y. r y x ≡ false) l
-    before-all x l h = all_map (λ y. not (r x y) ≡ false) (λ y. r y x ≡ false) l (λ y e. o.asym x y (not_false (r x y) e)) h
+    before-all x l h = all_map (λ y. not (r x y) ≡ false) (λ y. r y x ≡ false) l (λ y e. o.asym x y (not-false (r x y) e)) h
 
     pub strict-sorted : (l : List A) → Strict r l → Sorted r l
     unfolding Sorted
@@ -168,7 +168,7 @@ module _ {A : Type 0} where
         go true e i = (
           (
             ap not e,
-            all_map (λ z. not (r y z) ≡ false) (λ z. not (r x z) ≡ false) l (λ z f. ap not (before_trans x y z e (not_false (r y z) f)))
+            all_map (λ z. not (r y z) ≡ false) (λ z. not (r x z) ≡ false) l (λ z f. ap not (before_trans x y z e (not-false (r y z) f)))
                 h.0,
           ),
           h,

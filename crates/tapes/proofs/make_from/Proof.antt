@@ -1,5 +1,5 @@
 -- `tapes::make_from` meets its contract: the questions in their order, then the tape.
-use Rattle.machine.specs.All.{◌/◌, ◌≡◌, sym, ◌∙◌, length, not_true, not_false, needs}
+use Rattle.machine.specs.All.{◌/◌, ◌≡◌, sym, ◌∙◌, length, not-true, not-false, needs}
 use Rattle.tapes_laws.specs.Given.{lists_from, lists_of}
 use Rattle.tapes_laws.proofs.Making.{uneven, seventeenth, some-refused, all-lists, found, answer-42, answer-43, answer-made}
 use Rattle.tapes.proofs.make_from as own
@@ -22,7 +22,7 @@ returns-not-all-given c =
     let at-else2 : own.Tie.Else2 = search in
     let at-else1 : own.Tie.Else1 = search in
     answer-42 _ _ _
-    (some-refused _ _ at-else1.if1.left at-else2.if2.left (sym (not_true _ c.if3.true) ∙ c.before.all-given.ensures))
+    (some-refused _ _ at-else1.if1.left at-else2.if2.left (sym (not-true _ c.if3.true) ∙ c.before.all-given.ensures))
 
 returns-no-room : ((c : own.Tie.Else2) → Taken c) → own.Tie.Need-returns-4
 returns-no-room all c =
@@ -31,7 +31,7 @@ returns-no-room all c =
     let at-else3 : own.Tie.Else3 = search in
     let at-all-given : own.Tie.After-all-given = search in
     let at-else2 : own.Tie.Else2 = search in
-    let f = found _ (sym (not_false _ at-else3.if3.left) ∙ at-all-given.all-given.ensures) in
+    let f = found _ (sym (not-false _ at-else3.if3.left) ∙ at-all-given.all-given.ensures) in
     answer-43 _ _ _ f.ls (all at-else2 ∙ f.is) _ (at-measure.measure.ensures f.ls f.is) at-then4.if4.taken
 
 returns-made : ((c : own.Tie.Else2) → Taken c) → own.Tie.Need-returns-5
@@ -42,7 +42,7 @@ returns-made all c =
     let at-else3 : own.Tie.Else3 = search in
     let at-all-given : own.Tie.After-all-given = search in
     let at-else2 : own.Tie.Else2 = search in
-    let f = found _ (sym (not_false _ at-else3.if3.left) ∙ at-all-given.all-given.ensures) in
+    let f = found _ (sym (not-false _ at-else3.if3.left) ∙ at-all-given.all-given.ensures) in
     let total = at-measure.measure.ensures f.ls f.is in
     answer-made _ _ _ f.ls (all at-else2 ∙ f.is) _ total at-else4.if4.left _
     (at-write.write.ensures f.ls f.is (rw total at at-else4.if4.left))

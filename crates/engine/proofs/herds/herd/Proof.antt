@@ -1,5 +1,5 @@
 -- `herd` meets its contract: no turn, or those of all who come to the block of the first of REL.
-use Rattle.machine.specs.All.{◌∙◌, sym, arith, not_false, needs}
+use Rattle.machine.specs.All.{◌∙◌, sym, arith, not-false, needs}
 use Rattle.engine_laws.proofs.Herding.{onward-none}
 use Rattle.engine.proofs.herds.herd as f
 
@@ -37,7 +37,7 @@ returns-last c =
     let at-else1 : f.Tie.Else1 = search in
     let call = at-stay-all.stay_all in (
       λ tape trace. call.ensures.0 _ _ tape _ trace at-else2.if2.left at-else1.if1.left
-          (sym at-all-wait.all-wait.ensures ∙ not_false _ at-else4.if4.left),
+          (sym at-all-wait.all-wait.ensures ∙ not-false _ at-else4.if4.left),
       call.ensures.1,
     )
 

@@ -1,5 +1,5 @@
 -- `queue_all` meets its contract: no turn, or those that `queued` speaks of.
-use Rattle.machine.specs.All.{sym, ◌∙◌, arith, not_false, needs}
+use Rattle.machine.specs.All.{sym, ◌∙◌, arith, not-false, needs}
 use Rattle.engine_laws.proofs.Herding.{queued, queued-still, queued-none, fits-left}
 use Rattle.engine.proofs.herds.queue_all as f
 
@@ -37,7 +37,7 @@ returns-last c =
     let at-else1 : f.Tie.Else1 = search in
     let at-end-before : f.Tie.After-end-before = search in
     queued _ _ _ _ _ _ _ _ _ _ _ _ (sym at-end-before.end_before.ensures ∙ at-else1.if1.left)
-    (sym at-crowded.crowded.ensures ∙ not_false _ at-else2.if2.left)
+    (sym at-crowded.crowded.ensures ∙ not-false _ at-else2.if2.left)
     (omega (arith, at-else3.if3.left)) at-line-all.line-all.ensures.1 at-turns-left.turns-left.ensures
     at-line-all.line-all.ensures.0 c.before.lengthen.ensures
 

@@ -1,5 +1,5 @@
 -- `arrive` meets its contract. The invariant: the rest of the arrivals from here are all of them. The measure: the steps left.
-use Rattle.machine.specs.All.{◌+◌, ◌-◌, ◌≤◌, ◌≡◌, refl, sym, ◌∙◌, arith, not_true, not_false, length}
+use Rattle.machine.specs.All.{◌+◌, ◌-◌, ◌≤◌, ◌≡◌, refl, sym, ◌∙◌, arith, not-true, not-false, length}
 use Rattle.rows_laws.specs.All.{arrive}
 use Rattle.rows_laws.proofs.Steps.{arrive-end, arrive-stop, arrive-next}
 use Rattle.rows.proofs.clock.arrive.Statement.{statement}
@@ -19,7 +19,7 @@ none-due : tie.Need-returns invariant-loop decreases-loop
 none-due c =
     let at-is-due : tie.After-is-due invariant-loop decreases-loop = search in
     let at-loop : tie.At-loop invariant-loop decreases-loop = search in
-    sym (arrive-stop _ _ _ _ (sym at-is-due.is-due.ensures ∙ not_true _ c.if1.true)) ∙ at-loop.loop.inv.0
+    sym (arrive-stop _ _ _ _ (sym at-is-due.is-due.ensures ∙ not-true _ c.if1.true)) ∙ at-loop.loop.inv.0
 
 loop-again : tie.Need-loop-preserved invariant-loop decreases-loop
 loop-again c =
@@ -28,7 +28,7 @@ loop-again c =
     let at-is-due : tie.After-is-due invariant-loop decreases-loop = search in
     let at-loop : tie.At-loop invariant-loop decreases-loop = search in (
       rw at-arrive-first.arrive-first.ensures
-          (sym (arrive-next _ _ _ _ _ (omega arith) (sym at-is-due.is-due.ensures ∙ not_false _ at-else1.if1.left))
+          (sym (arrive-next _ _ _ _ _ (omega arith) (sym at-is-due.is-due.ensures ∙ not-false _ at-else1.if1.left))
           ∙ at-loop.loop.inv.0),
       (omega arith, (omega (arith, at-arrive-first.arrive-first.kept), omega arith)),
     )

@@ -1,5 +1,5 @@
 -- `at_once` meets its contract: the tests in order.
-use Rattle.machine.specs.All.{sym, ◌∙◌, lt-ltb, le-ltb, eq-eqb, ne_eqb, not_true, not_false, needs}
+use Rattle.machine.specs.All.{sym, ◌∙◌, lt-ltb, le-ltb, eq-eqb, ne_eqb, not-true, not-false, needs}
 use Rattle.servers_laws.specs.Waking.{many, at_once_lem}
 use Rattle.servers.proofs.waking.at_once.Statement.{statement}
 use Rattle.servers.proofs.waking.at_once.Tie as tie
@@ -33,7 +33,7 @@ not-ahead c =
       eq-eqb _ 1 at-else2.if2.left,
       ← at_first.first.ensures,
       lt-ltb _ 1024 at-else3.if3.left,
-      sym at-ahead-of.ahead_of_lem.ensures ∙ not_true _ c.if4.true,
+      sym at-ahead-of.ahead_of_lem.ensures ∙ not-true _ c.if4.true,
     )
 
 by-demands : tie.Need-returns-5
@@ -50,7 +50,7 @@ by-demands c =
       eq-eqb _ 1 at-else2.if2.left,
       ← at_first.first.ensures,
       lt-ltb _ 1024 at-else3.if3.left,
-      sym at-ahead-of.ahead_of_lem.ensures ∙ not_false _ at-else4.if4.left,
+      sym at-ahead-of.ahead_of_lem.ensures ∙ not-false _ at-else4.if4.left,
     )
     c.none-too-many.ensures
 

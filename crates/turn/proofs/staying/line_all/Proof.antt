@@ -1,5 +1,5 @@
 -- `line_all` meets its contract: nobody where a question stops it, else `lines-all`.
-use Rattle.machine.specs.All.{sym, ap, ◌∙◌, arith, not_false, needs}
+use Rattle.machine.specs.All.{sym, ap, ◌∙◌, arith, not-false, needs}
 use Rattle.rows_laws.specs.All.{place, store}
 use Rattle.turn_laws.proofs.Lining.{lines_none, lines-all}
 use Rattle.turn.proofs.staying.line_all as f
@@ -26,7 +26,7 @@ returns-last c =
       λ there. lines-all (omega (arith, start.pre)) (sym server.0) server.1 (sym at-number.number.ensures ∙ at-else2.if2.left)
           (sym at-back-to.back_to.ensures ∙ at-else3.if3.left)
           (sym at_first.first.ensures) (sym at-get.get.ensures)
-          (sym at-ends-at.ends_at.ensures ∙ not_false _ at-else5.if5.left) (sym at_load.load.ensures) at-else6.if6.left
+          (sym at-ends-at.ends_at.ensures ∙ not-false _ at-else5.if5.left) (sym at_load.load.ensures) at-else6.if6.left
           (at_set.set.ensures ∙ ap (λ z. store z (place at_first.first.result) at-server-of.server-of.result)
           at_store.store.ensures) call.0 call.1.0 there,
       call.1.1,

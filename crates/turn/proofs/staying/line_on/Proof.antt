@@ -1,6 +1,6 @@
 -- `line_on` meets its contract. The loop's invariant: it is amid those who come with row k, `Lining`. The measure is how many more there
 -- may be. Assumes nothing.
-use Rattle.machine.specs.All.{◌-◌, sym, ◌∙◌, ap, ◌%◌, arith, not_false, needs}
+use Rattle.machine.specs.All.{◌-◌, sym, ◌∙◌, ap, ◌%◌, arith, not-false, needs}
 use Rattle.turn_laws.proofs.Lining.{Lining, lining-none, lining-next, lining-done, comes-is}
 use Rattle.turn.proofs.staying.line_on as f
 
@@ -47,19 +47,19 @@ returns-not-comes-with c =
 read-requires-3 : f.Tie.Need-read-requires-3 Inv-loop μ-loop
 read-requires-3 c κs =
     let at-comes-with : f.Tie.After-comes-with Inv-loop μ-loop = search in
-    let low = (comes-is _ _ _ _ _ (sym at-comes-with.comes-with.ensures ∙ not_false _ c.before.if1.left)).0 in search needs
+    let low = (comes-is _ _ _ _ _ (sym at-comes-with.comes-with.ensures ∙ not-false _ c.before.if1.left)).0 in search needs
 
 add-set : f.Tie.Need-add-set Inv-loop μ-loop
 add-set c =
     let at-else1 : f.Tie.Else1 Inv-loop μ-loop = search in
     let at-comes-with : f.Tie.After-comes-with Inv-loop μ-loop = search in
-    let low = (comes-is _ _ _ _ _ (sym at-comes-with.comes-with.ensures ∙ not_false _ at-else1.if1.left)).0 in omega (arith, low)
+    let low = (comes-is _ _ _ _ _ (sym at-comes-with.comes-with.ensures ∙ not-false _ at-else1.if1.left)).0 in omega (arith, low)
 
 set-requires : f.Tie.Need-set-requires Inv-loop μ-loop
 set-requires c κs =
     let at-else1 : f.Tie.Else1 Inv-loop μ-loop = search in
     let at-comes-with : f.Tie.After-comes-with Inv-loop μ-loop = search in
-    let low = (comes-is _ _ _ _ _ (sym at-comes-with.comes-with.ensures ∙ not_false _ at-else1.if1.left)).0 in search needs
+    let low = (comes-is _ _ _ _ _ (sym at-comes-with.comes-with.ensures ∙ not-false _ at-else1.if1.left)).0 in search needs
 
 tie-requires-2 : f.Tie.Need-tie-requires-2 Inv-loop μ-loop
 tie-requires-2 c κs =
@@ -89,7 +89,7 @@ loop-again c =
     let at-get : f.Tie.After-get Inv-loop μ-loop = search in
     let at-loop : f.Tie.At-loop Inv-loop μ-loop = search in
     lining-next at-loop.loop.inv _ at-get.get.ensures
-    (sym at-comes-with.comes-with.ensures ∙ not_false _ at-else1.if1.left) (omega arith)
+    (sym at-comes-with.comes-with.ensures ∙ not-false _ at-else1.if1.left) (omega arith)
     _ at_set.set.ensures _ at-read3.read3.ensures
 
 pub line-on-spec : {M : Type 1} → f.Statement.statement M
