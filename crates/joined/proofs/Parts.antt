@@ -3,10 +3,10 @@ use Rattle.machine.specs.All.{ℕ, ◌≤◌, ◌≡◌, refl, List, [], ◌∷�
 use Rattle.machine.proofs.{Decoding.Proper.Proper, Lists.Cases.start_of-cases, Runs.Shape.shape-start, NobodyAble.WaitsKept.waits_start, Runs.Placed.placed-start, Decoding.ProperFrom.proper-from, Decoding.ProperFrom.rules-from}
 use Rattle.joined.specs.{first, second, join_models, join_tapes, Dry, Apart, TwoPlants, part_of}
 use Rattle.joined.proofs as our
-use our.{own.Inside.Inside, turns.Simulation.Sane, turns.DryRuns.run-both, joining.JointStart.joint-start, records.Recorded.everybody-recorded, records.Ranked.part-records, lists.Members.strictly}
-use our.joining.Named.{edition-from, plain-from}
-use our.joining.BothParts.{PlainModel, facing₁, facing₂, inside₁, inside₂}
-use our.joining.ProperJoined.{Fits, fits, proper-joined}
+use our.{Own.Inside.Inside, Turns.Simulation.Sane, Turns.DryRuns.run-both, Joining.JointStart.joint-start, Records.Recorded.everybody-recorded, Records.Ranked.part-records, Lists.Members.strictly}
+use our.Joining.Named.{edition-from, plain-from}
+use our.Joining.BothParts.{PlainModel, facing₁, facing₂, inside₁, inside₂}
+use our.Joining.ProperJoined.{Fits, fits, proper-joined}
 
 -- ---- The start has no end
 

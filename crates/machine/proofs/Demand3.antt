@@ -6,13 +6,13 @@
 -- of the run that gives the outcome, and the run keeps to its bounds.
 use Rattle.machine.specs.All.{ℕ, ◌≡◌, List, reverse, server_at, BlockModel, State, Rules, accept, validate, states, InOrder, Keeps, Demand3, Proved}
 use Rattle.machine.proofs as our
-use our.{decoding.Proper.Proper, decoding.ProperFrom.proper-from, runs.Bounds.bounded, order.InOrder.in_order, runs.RunLaws.last}
-use our.basic.Each.{Each-map, each-pair, each-under}
-use our.conservation.Conservation.{Conserved, conserved}
-use our.nobody_able.NobodyAble.{Waited, waited, able-none}
-use our.later.Holders.{Holding, holding, taken-from}
-use our.later.JoinedWaits.{Gathered, joined-waits}
-use our.later.Gathering.{Assembled, assembled}
+use our.{Decoding.Proper.Proper, Decoding.ProperFrom.proper-from, Runs.Bounds.bounded, Order.InOrder.in_order, Runs.RunLaws.last}
+use our.Basic.Each.{Each-map, each-pair, each-under}
+use our.Conservation.Conservation.{Conserved, conserved}
+use our.NobodyAble.NobodyAble.{Waited, waited, able-none}
+use our.Later.Holders.{Holding, holding, taken-from}
+use our.Later.JoinedWaits.{Gathered, joined-waits}
+use our.Later.Gathering.{Assembled, assembled}
 
 -- by edition 1 alone
 abbrev Ordered : BlockModel → List (List ℕ) → State → Type 0

@@ -3,11 +3,11 @@
 use Rattle.machine.specs.All.{ℕ, zero, suc, ◌≤◌, ◌<◌, ◌≡◌, refl, sym, ap, ◌∙◌, subst, ◌≢◌, Bool, true, false, cond, not, List, [], ◌∷◌, map, arith, ℕ_discrete, lt-ltb, le-ltb, eqb-true, eqb-false, not-false, eqb, take, Transaction, Event, precedes}
 use Rattle.rows_laws.specs.All.{place, fel, load, outranks, sooner, first, transaction_at, occurs, Listed, Sorted, Strict, Shows, earlier_of, walk_to, full_walk, or_none, NoneWhenEmpty, KeptFirst, kept, KeptHead}
 use Rattle.rows_laws.proofs as our
-use our.counting.Occurs.{same_refl, same-other, same_pos, occurs-cons}
-use our.order.SortedInsertion.{Order, not-both, before-none, sorted_unmap, order_unmap}
-use our.{order.RowOrders.precedes-order, order.RowOrders.outranks-is, heap.Scheduling.sooner-order}
-use our.chains.TakeFirst.{First, none, some, first_of, Head, nobody as none-leads, somebody as one-leads, head_of}
-use our.heap.FutureEvents.{all-at, rows_strict, first-fel}
+use our.Counting.Occurs.{same_refl, same-other, same_pos, occurs-cons}
+use our.Order.SortedInsertion.{Order, not-both, before-none, sorted_unmap, order_unmap}
+use our.{Order.RowOrders.precedes-order, Order.RowOrders.outranks-is, Heap.Scheduling.sooner-order}
+use our.Chains.TakeFirst.{First, none, some, first_of, Head, nobody as none-leads, somebody as one-leads, head_of}
+use our.Heap.FutureEvents.{all-at, rows_strict, first-fel}
 
 occurs-none : (k : ℕ) → occurs k [] ≡ 0
 unfolding occurs

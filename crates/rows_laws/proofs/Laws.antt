@@ -5,22 +5,22 @@ use Rattle.machine.specs.Moves as Moves
 use Rattle.machine.proofs.NobodyAble.QueueRemove.{walk}
 use Rattle.rows_laws.specs.All.{list_count, place, head, wsl, rel, fel, free, load, outranks, sooner, remove_at, put, first, take_first, remove, schedule, cancel, line_up, wake_first, wake_walk, wake_all, Arrived, arrive, arrivals, free_row, loose, on_lists, transaction_at, event_at, ending, Holds, update, All, Sorted, Ordered, order_of, Shows, Loose, moved}
 use Rattle.rows_laws.proofs as our
-use our.counting.Occurs.{same_refl, occurs-append, occurs-cons}
-use our.order.SortedInsertion.{All-map, front, insert-sorted, insert_strict, sorted-without, sorted-drop, sorted-those}
-use our.order.RowOrders.{precedes-order, earlier-order, earlier-total}
-use our.order.StayInOrder.{sorted-weaker, sorted-line, ordered-list, ordered-fel, ordered-moved, wake-sorted, arrivals-sorted}
-use our.{chains.StructuralLaw.row_of, placing.Spot.short, buffer.RowData.SameRow, buffer.RowData.same_row, chains.Showing.shown-list, counting.LooseRows.loose-more, counting.LooseRows.loose-less, chains.RemoveRow.rest_of, chains.RemoveRow.remove-is}
-use our.chains.InsertRemove.{Kept, remove-holds, remove-keeps, remove-placed}
-use our.life.LooseRowsStay.{Steady, Around, kept-around}
-use our.placing.Put.{put_Keeps, put-placed, put-shown}
-use our.placing.LineUp.{lined, line-shown, line-keeps, line-placed}
-use our.chains.TakeFirst.{Head, head-shown, rows-first, take-shown, take-free-shown}
-use our.heap.FutureEvents.{head-fel-shown, schedule-shown, cancel-shown}
-use our.heap.Scheduling.{schedule-keeps, schedule-placed, cancel-was, cancel-keeps, cancel-placed}
-use our.life.Making.{free-keeps, free-placed, free-shown}
-use our.waking.WakeMany
-use our.clock.RowArrivals
-use our.counting.Population
+use our.Counting.Occurs.{same_refl, occurs-append, occurs-cons}
+use our.Order.SortedInsertion.{All-map, front, insert-sorted, insert_strict, sorted-without, sorted-drop, sorted-those}
+use our.Order.RowOrders.{precedes-order, earlier-order, earlier-total}
+use our.Order.StayInOrder.{sorted-weaker, sorted-line, ordered-list, ordered-fel, ordered-moved, wake-sorted, arrivals-sorted}
+use our.{Chains.StructuralLaw.row_of, Placing.Spot.short, Buffer.RowData.SameRow, Buffer.RowData.same_row, Chains.Showing.shown-list, Counting.LooseRows.loose-more, Counting.LooseRows.loose-less, Chains.RemoveRow.rest_of, Chains.RemoveRow.remove-is}
+use our.Chains.InsertRemove.{Kept, remove-holds, remove-keeps, remove-placed}
+use our.Life.LooseRowsStay.{Steady, Around, kept-around}
+use our.Placing.Put.{put_Keeps, put-placed, put-shown}
+use our.Placing.LineUp.{lined, line-shown, line-keeps, line-placed}
+use our.Chains.TakeFirst.{Head, head-shown, rows-first, take-shown, take-free-shown}
+use our.Heap.FutureEvents.{head-fel-shown, schedule-shown, cancel-shown}
+use our.Heap.Scheduling.{schedule-keeps, schedule-placed, cancel-was, cancel-keeps, cancel-placed}
+use our.Life.Making.{free-keeps, free-placed, free-shown}
+use our.Waking.WakeMany
+use our.Clock.RowArrivals
+use our.Counting.Population
 use mathlib.Core.Path.{subst}
 use Rattle.rows_laws.specs.Layout.{nowhere}
 use Rattle.rows_laws.specs.Ordered.{Strict}

@@ -26,10 +26,10 @@ use Rattle.machine.proofs.Decoding.Proper.{Names}
 
 -- ---- The units of the block before which a transaction stands, as the tables have them
 
-abbrev needs : List ℕ → Transaction → ℕ
-needs tables t = units_at tables (8 * ((t.next - 1) % 256))
+abbrev rules : List ℕ → Transaction → ℕ
+rules tables t = units_at tables (8 * ((t.next - 1) % 256))
 
-units_row : (tables w : List ℕ) (k : ℕ) → member_units tables w k ≡ needs tables (transaction_at w k)
+units_row : (tables w : List ℕ) (k : ℕ) → member_units tables w k ≡ rules tables (transaction_at w k)
 unfolding member_units transaction_at
 units_row tables w k = refl
 
@@ -53,12 +53,12 @@ same-steps : {m : BlockModel} {tape : List (List ℕ)} {tape_bytes tables lists 
     → Represents m tape tape_bytes tables lists → (l : List Transaction)
     → Each (Placed m) l
     → Each
-    (λ t. (n : ℕ) → (within (needs tables) n t ≡ within (units_of_lem m) n t)
-    × (less m.edition (needs tables) n t ≡ left_after (not (eqb m.edition 1)) (units_of_lem m) n t)) l
+    (λ t. (n : ℕ) → (within (rules tables) n t ≡ within (units_of_lem m) n t)
+    × (less m.edition (rules tables) n t ≡ left_after (not (eqb m.edition 1)) (units_of_lem m) n t)) l
 same-steps proper rep [] h = tt
 same-steps {m} {tables = tables} proper rep (t ∷ l) h = (
   λ n.
-      let e : needs tables t ≡ units_of_lem m t = units_of proper rep t.next h.0.0 in
+      let e : rules tables t ≡ units_of_lem m t = units_of proper rep t.next h.0.0 in
       (ap (λ (u : ℕ). leb u n) e, ap (left_behind m.edition n) e ∙ less-is m.edition (units_of_lem m) n t),
   same-steps proper rep l h.1,
 )
@@ -100,7 +100,7 @@ module _ {m : BlockModel} {tape : List (List ℕ)} {tape_bytes tables lists w ta
       left = leave_with m.edition (server.capacity - units) n
 
       part : List Transaction → Parted
-      part = walk (within (needs tables)) (less m.edition (needs tables)) left
+      part = walk (within (rules tables)) (less m.edition (rules tables)) left
 
       same-part : part (ql_of s₁ v) ≡ part_for m (storage v n) s₁.view (ql_of s₁ v)
       unfolding leave_with part
@@ -130,7 +130,7 @@ module _ {m : BlockModel} {tape : List (List ℕ)} {tape_bytes tables lists w ta
         -- where all go at once, everybody fits
         module _ (a : AtOnce tables w (v - 1) m.edition left) where
           all_fit : (l : List Transaction) → Each (Placed m) l → Each (AtServer m v) l
-              → Each (λ t. (within (needs tables) left t ≡ true) × (less m.edition (needs tables) left t ≡ left)) l
+              → Each (λ t. (within (rules tables) left t ≡ true) × (less m.edition (rules tables) left t ≡ left)) l
           unfolding left_behind
           all_fit [] p q = tt
           all_fit (u ∷ l) p q = (
@@ -178,7 +178,7 @@ module _ {m : BlockModel} {tape : List (List ℕ)} {tape_bytes tables lists w ta
             go false e =
                 rw (← wake_ql-same part _ v s₁ same-part)
                 (ready-done
-                (passed-ready freed freed-now _ _ (within (needs tables)) (less _ (needs tables))
+                (passed-ready freed freed-now _ _ (within (rules tables)) (less _ (rules tables))
                 (λ k u j. cc (units_row tables u j)) (λ k u j. cc (units_row tables u j)) left)
                 (next_low h))
 

@@ -1,5 +1,5 @@
 -- `codec::put_number` meets its contract: each length has its own stores.
-use Rattle.machine.specs.All.{◌≡◌, sym, arith, length, number_bytes, needs}
+use Rattle.machine.specs.All.{◌≡◌, sym, arith, length, number_bytes, rules}
 use Rattle.codec.proofs as our
 use our.Numbers.{number_bytes-one, number_bytes_exact}
 use our.put_number as f
@@ -66,22 +66,22 @@ put-number-spec =
     f.Tie.close
     (f.Tie.spec
     store-number-requires
-    (search needs)
-    (search needs)
+    (search rules)
+    (search rules)
     returns-v-below-end-1
     store-number-requires-2
-    (search needs)
-    (search needs)
+    (search rules)
+    (search rules)
     returns-v-below-end-2
     store-number-requires-3
-    (search needs)
-    (search needs)
+    (search rules)
+    (search rules)
     (returns-3 three)
     store-number-requires-4
-    (search needs)
-    (search needs)
+    (search rules)
+    (search rules)
     returns-v-below-end-4
     store-number-requires-5
-    (search needs)
-    (search needs)
+    (search rules)
+    (search rules)
     returns-last)

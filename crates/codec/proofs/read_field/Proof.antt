@@ -1,12 +1,12 @@
 -- `codec::read_field` meets its contract: the answer of `read_number`, then the two tests of the range.
-use Rattle.machine.specs.All.{ap, ◌∙◌, add-one, needs, refused}
+use Rattle.machine.specs.All.{ap, ◌∙◌, add-one, rules, refused}
 use Rattle.codec.specs.{parsed_of}
 use Rattle.codec.proofs as our
 use our.Answers.{field-unread, field-low, field-high, field-within, refused-value, value-inside}
 use our.read_field as f
 
 enum_told : f.Tie.Need-enum-told
-enum_told c = search needs
+enum_told c = search rules
 
 returns-no-number : f.Tie.Need-returns
 unfolding parsed_of
@@ -56,9 +56,9 @@ pub read-field-spec : {M : Type 1} → f.Statement.statement M
 read-field-spec =
     f.Tie.close
     (f.Tie.spec
-    (search needs)
-    (search needs)
-    (search needs)
+    (search rules)
+    (search rules)
+    (search rules)
     enum_told
     returns-no-number
     returns-v-below-lo

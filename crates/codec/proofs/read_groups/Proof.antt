@@ -1,6 +1,6 @@
 -- `codec::read_groups` meets its contract. The loop's invariant: the answer is that of the groups still to come at `next`
 -- behind `value`, and `value` leaves room for `left` groups more. The measure is `left`.
-use Rattle.machine.specs.All.{◌+◌, ◌*◌, ◌^◌, ◌≤◌, ◌≡◌, refl, sym, ◌∙◌, arith, needs}
+use Rattle.machine.specs.All.{◌+◌, ◌*◌, ◌^◌, ◌≤◌, ◌≡◌, refl, sym, ◌∙◌, arith, rules}
 use Rattle.codec.proofs as our
 use our.Steps.{at-groups, read-end, read-limit, read-last, read_more, room-start, room-step, room_fits}
 use our.read_groups as f
@@ -89,7 +89,7 @@ read-groups-spec =
     (omega arith)
     mul-in-size
     add-in-size
-    (search needs)
+    (search rules)
     returns-b-below-group
     mul-value
     add-value

@@ -1,5 +1,5 @@
 -- `codec::read_report_number` meets its contract: that of `read_shortest`, in the paper's terms.
-use Rattle.machine.specs.All.{max_report_number_bytes, max_report_number, needs}
+use Rattle.machine.specs.All.{max_report_number_bytes, max_report_number, rules}
 use Rattle.codec.proofs as our
 use our.Answers.{number-answer, number-inside}
 use our.read_report_number as f
@@ -11,4 +11,4 @@ returns c = (
 )
 
 pub read-report-number-spec : {M : Type 1} → f.Statement.statement M
-read-report-number-spec = f.Tie.close (f.Tie.spec (search needs) returns)
+read-report-number-spec = f.Tie.close (f.Tie.spec (search rules) returns)

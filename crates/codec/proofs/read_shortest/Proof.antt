@@ -1,5 +1,5 @@
 -- `codec::read_shortest` meets its contract: no byte there, an empty first group, or what the groups give.
-use Rattle.machine.specs.All.{◌∙◌, arith, needs}
+use Rattle.machine.specs.All.{◌∙◌, arith, rules}
 use Rattle.codec.proofs as our
 use our.Answers.{read_past, read-padded, read_unpadded}
 use our.read_shortest as f
@@ -15,7 +15,7 @@ pub read-shortest-spec : {M : Type 1} → f.Statement.statement M
 read-shortest-spec =
     f.Tie.close (f.Tie.spec
     (λ c. read_past _ _ _ _ c.if1.taken)
-    (search needs)
+    (search rules)
     returns-s-is-empty-group
-    (search needs)
+    (search rules)
     returns-last)

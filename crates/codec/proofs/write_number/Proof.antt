@@ -1,5 +1,5 @@
 -- `codec::write_number` meets its contract: with room the number is stored there, without room nothing is.
-use Rattle.machine.specs.All.{sym, ap₂, ◌∙◌, arith, needs}
+use Rattle.machine.specs.All.{sym, ap₂, ◌∙◌, arith, rules}
 use Rattle.codec.specs.{written}
 use Rattle.codec.proofs as our
 use our.Writing.{put-room, put_full}
@@ -17,11 +17,11 @@ pub write-number-spec : {M : Type 1} → f.Statement.statement M
 write-number-spec =
     f.Tie.close
     (f.Tie.spec
-    (search needs)
+    (search rules)
     (λ c. sym (put_full _ _ _ (omega arith)))
-    (search needs)
+    (search rules)
     (λ c. sym (put_full _ _ _ (omega arith)))
-    (search needs)
-    (search needs)
-    (search needs)
+    (search rules)
+    (search rules)
+    (search rules)
     returns-last)

@@ -2,7 +2,7 @@
 use Rattle.covrith.proofs as our
 use our.Joins.{joined_Bytes, joined-nothing}
 use our.covrith_join as f
-use Rattle.machine.specs.All.{needs}
+use Rattle.machine.specs.All.{rules}
 
 returns-bytes : f.Tie.Need-returns
 returns-bytes c =
@@ -24,12 +24,12 @@ pub covrith-join-spec : {M : Type 1} → f.Statement.statement M
 covrith-join-spec =
     f.Tie.close
     (f.Tie.spec
-    (search needs)
-    (search needs)
-    (search needs)
-    (search needs)
-    (search needs)
+    (search rules)
+    (search rules)
+    (search rules)
+    (search rules)
+    (search rules)
     returns-bytes
-    (search needs)
-    (search needs)
+    (search rules)
+    (search rules)
     returns-refused)

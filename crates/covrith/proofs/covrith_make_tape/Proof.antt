@@ -2,7 +2,7 @@
 use Rattle.covrith.proofs as our
 use our.Tapes.{Made-bytes, made_Nothing}
 use our.covrith_make_tape as f
-use Rattle.machine.specs.All.{needs}
+use Rattle.machine.specs.All.{rules}
 
 returns-bytes : f.Tie.Need-returns
 returns-bytes c =
@@ -20,4 +20,4 @@ returns-refused c =
 
 pub covrith-make-tape-spec : {M : Type 1} → f.Statement.statement M
 covrith-make-tape-spec =
-    f.Tie.close (f.Tie.spec (search needs) (search needs) (search needs) (search needs) returns-bytes (search needs) returns-refused)
+    f.Tie.close (f.Tie.spec (search rules) (search rules) (search rules) (search rules) returns-bytes (search rules) returns-refused)

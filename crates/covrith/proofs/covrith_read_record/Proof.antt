@@ -2,10 +2,10 @@
 use Rattle.covrith.proofs as our
 use our.Records.{read_taken, read-refused, read_no-more}
 use our.covrith_read_record as f
-use Rattle.machine.specs.All.{needs}
+use Rattle.machine.specs.All.{rules}
 
 enum_told : f.Tie.Need-enum-told
-enum_told c = search needs
+enum_told c = search rules
 
 returns-taken : f.Tie.Need-returns
 returns-taken c =
@@ -27,9 +27,9 @@ pub covrith-read-record-spec : {M : Type 1} → f.Statement.statement M
 covrith-read-record-spec =
     f.Tie.close
     (f.Tie.spec
-    (search needs)
-    (search needs)
-    (search needs)
+    (search rules)
+    (search rules)
+    (search rules)
     enum_told
     returns-taken
     returns-refused

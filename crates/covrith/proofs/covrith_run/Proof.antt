@@ -1,5 +1,5 @@
 -- `covrith_run` meets its contract: that of `run`, with its results as eight numbers. Assumes nothing.
-use Rattle.machine.specs.All.{needs}
+use Rattle.machine.specs.All.{rules}
 use Rattle.covrith.proofs.covrith_run as f
 
 returns : f.Tie.Need-returns
@@ -9,8 +9,8 @@ returns c =
 
 pub covrith-run-spec : {M : Type 1} → f.Statement.statement M
 covrith-run-spec = f.Tie.close (f.Tie.spec
-    (search needs)
-    (search needs)
-    (search needs)
-    (search needs)
+    (search rules)
+    (search rules)
+    (search rules)
+    (search rules)
     returns)

@@ -1,5 +1,5 @@
 -- `covrith_stream_start` meets its contract: the answer of `start`, case by case.
-use Rattle.machine.specs.All.{refl, needs}
+use Rattle.machine.specs.All.{refl, rules}
 use Rattle.covrith.specs.{start_answer, start_state}
 use Rattle.covrith.proofs.covrith_stream_start as f
 
@@ -16,4 +16,4 @@ returns-refused c =
     rw (← at-start.start.ensures.0, c.before.n.given.1) (refl, refl)
 
 pub covrith-stream-start-spec : {M : Type 1} → f.Statement.statement M
-covrith-stream-start-spec = f.Tie.close (f.Tie.spec (search needs) (search needs) (search needs) returns-state returns-refused)
+covrith-stream-start-spec = f.Tie.close (f.Tie.spec (search rules) (search rules) (search rules) returns-state returns-refused)

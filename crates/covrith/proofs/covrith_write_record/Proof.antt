@@ -1,5 +1,5 @@
 -- `covrith_write_record` meets its contract: the answer of `write_one`, case by case.
-use Rattle.machine.specs.All.{arith, needs}
+use Rattle.machine.specs.All.{arith, rules}
 use Rattle.covrith.proofs as our
 use our.Records.{wrote-bytes, Wrote-nothing}
 use our.covrith_write_record as f
@@ -23,10 +23,10 @@ pub covrith-write-record-spec : {M : Type 1} → f.Statement.statement M
 covrith-write-record-spec =
     f.Tie.close
     (f.Tie.spec
-    (search needs)
-    (search needs)
-    (search needs)
-    (search needs)
+    (search rules)
+    (search rules)
+    (search rules)
+    (search rules)
     returns-bytes
-    (search needs)
+    (search rules)
     returns-refused)

@@ -2,7 +2,7 @@
 use Rattle.decode.proofs as our
 use our.Answers.{few-lists, few-rows, small-work, small-report, no-model, no-tape, all-answered}
 use our.decode as f
-use Rattle.machine.specs.All.{needs}
+use Rattle.machine.specs.All.{rules}
 
 returns-work-len-below-work-numbers : f.Tie.Need-returns
 returns-work-len-below-work-numbers c = small-work _ _ _ _ _ _ c.if1.taken
@@ -12,7 +12,7 @@ returns-report-len-below-report-room c =
     small-report _ _ _ _ _ _ c.before.if1.left c.if2.taken
 
 enum-known-m : f.Tie.Need-enum-known-m
-enum-known-m c = search needs
+enum-known-m c = search rules
 
 whole-tape-requires : f.Tie.Need-whole-tape-requires
 whole-tape-requires c κs =
@@ -21,7 +21,7 @@ whole-tape-requires c κs =
     few-lists _ at-formed-model.formed-model.ensures at-m.m.given.1
 
 enum_told : f.Tie.Need-enum-told
-enum_told c = search needs
+enum_told c = search rules
 
 watch-requires : f.Tie.Need-watch-requires
 watch-requires c κs =
@@ -64,11 +64,11 @@ decode-spec =
     (f.Tie.spec
     returns-work-len-below-work-numbers
     returns-report-len-below-report-room
-    (search needs)
-    (search needs)
+    (search rules)
+    (search rules)
     enum-known-m
     whole-tape-requires
-    (search needs)
+    (search rules)
     enum_told
     watch-requires
     returns-refused-formed-model

@@ -1,5 +1,5 @@
 -- `decode::formed_model` meets its contract: the model, and then the two questions asked of the whole.
-use Rattle.machine.specs.All.{sym, ◌∙◌, not-true, not-false, needs}
+use Rattle.machine.specs.All.{sym, ◌∙◌, not-true, not-false, rules}
 use Rattle.decode.proofs as our
 use our.Models.{formed-stop, few-blocks, formed_long, formed_misplaced, formed-target, formed_name, formed-broken, formed-model}
 use our.formed_model as f
@@ -99,9 +99,9 @@ pub formed-model-spec : {M : Type 1} → f.Statement.statement M
 formed-model-spec =
     f.Tie.close
     (f.Tie.spec
-    (search needs)
-    (search needs)
-    (search needs)
+    (search rules)
+    (search rules)
+    (search rules)
     returns-refused
     well-placed-requires
     returns-position-is-not-len

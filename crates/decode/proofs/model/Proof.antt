@@ -2,7 +2,7 @@
 use Rattle.decode.proofs as our
 use our.Models.{model-stop, model-stop-2, model-kept}
 use our.model as f
-use Rattle.machine.specs.All.{needs}
+use Rattle.machine.specs.All.{rules}
 
 things-requires : f.Tie.Need-things-requires
 things-requires c κs =
@@ -41,12 +41,12 @@ pub model-spec : {M : Type 1} → f.Statement.statement M
 model-spec =
     f.Tie.close
     (f.Tie.spec
-    (search needs)
-    (search needs)
-    (search needs)
+    (search rules)
+    (search rules)
+    (search rules)
     things-requires
-    (search needs)
-    (search needs)
+    (search rules)
+    (search rules)
     program-requires
     returns-refused-servers
     returns-refused-things

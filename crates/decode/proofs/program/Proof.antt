@@ -1,5 +1,5 @@
 -- `decode::program` meets its contract: four parts, one after the other.
-use Rattle.machine.specs.All.{refl, needs}
+use Rattle.machine.specs.All.{refl, rules}
 use Rattle.parse_values.proofs.Binds.{takes-stop, takes_bind}
 use Rattle.decode.specs.{Stage, program_field}
 use Rattle.decode.proofs as our
@@ -82,18 +82,18 @@ pub program-spec : {M : Type 1} → f.Statement.statement M
 program-spec =
     f.Tie.close
     (f.Tie.spec
-    (search needs)
-    (search needs)
-    (search needs)
-    (search needs)
-    (search needs)
-    (search needs)
-    (search needs)
-    (search needs)
-    (search needs)
+    (search rules)
+    (search rules)
+    (search rules)
+    (search rules)
+    (search rules)
+    (search rules)
+    (search rules)
+    (search rules)
+    (search rules)
     blocks-requires
-    (search needs)
-    (search needs)
+    (search rules)
+    (search rules)
     returns-refused-number
     returns-refused-number-2
     returns-refused-number-3

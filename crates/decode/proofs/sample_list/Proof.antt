@@ -2,7 +2,7 @@
 use Rattle.decode.proofs as our
 use our.Lists.{list-stop, list-kept}
 use our.sample_list as f
-use Rattle.machine.specs.All.{needs}
+use Rattle.machine.specs.All.{rules}
 
 returns-refused : f.Tie.Need-returns
 returns-refused c =
@@ -19,14 +19,14 @@ pub sample-list-spec : {M : Type 1} → f.Statement.statement M
 sample-list-spec =
     f.Tie.close
     (f.Tie.spec
-    (search needs)
-    (search needs)
-    (search needs)
-    (search needs)
-    (search needs)
-    (search needs)
-    (search needs)
-    (search needs)
-    (search needs)
+    (search rules)
+    (search rules)
+    (search rules)
+    (search rules)
+    (search rules)
+    (search rules)
+    (search rules)
+    (search rules)
+    (search rules)
     returns-refused
     returns-value)

@@ -1,6 +1,6 @@
 -- `decode::sample_lists` meets its contract. The loop's invariant: what the lists from k on give is what all lists give. The measure
 -- is what is left of them.
-use Rattle.machine.specs.All.{needs, ◌≤◌, ◌-◌, arith}
+use Rattle.machine.specs.All.{rules, ◌≤◌, ◌-◌, arith}
 use Rattle.decode.proofs as our
 use our.Lists.{Leading, lists-begin, lists-none, lists-stop, lists-step}
 use our.sample_lists as f
@@ -42,9 +42,9 @@ sample-lists-spec =
     μ-loop
     (λ c. (omega arith, lists-begin _ _ _))
     (λ c κs. omega arith)
-    (search needs)
+    (search rules)
     returns-refused
-    (search needs)
+    (search rules)
     (omega arith)
     (omega arith)
     loop-again

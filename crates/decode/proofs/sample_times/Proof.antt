@@ -1,6 +1,6 @@
 -- `decode::sample_times` meets its contract. The loop's invariant: what the times that are left give is what all times give. The
 -- measure is `left`.
-use Rattle.machine.specs.All.{needs, arith}
+use Rattle.machine.specs.All.{rules, arith}
 use Rattle.decode.proofs as our
 use our.Lists.{Skipping, times_none, times-stop, times-step}
 use our.sample_times as f
@@ -38,10 +38,10 @@ sample-times-spec =
     Inv-loop
     μ-loop
     (λ c. λ i j r h. h)
-    (search needs)
-    (search needs)
+    (search rules)
+    (search rules)
     returns-refused
-    (search needs)
+    (search rules)
     (omega arith)
     (omega arith)
     loop-again

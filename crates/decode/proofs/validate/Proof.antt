@@ -2,10 +2,10 @@
 use Rattle.decode.proofs as our
 use our.Answers.{refusal-of}
 use our.validate as f
-use Rattle.machine.specs.All.{needs}
+use Rattle.machine.specs.All.{rules}
 
 enum_told : f.Tie.Need-enum-told
-enum_told c = search needs
+enum_told c = search rules
 
 returns-refused : f.Tie.Need-returns
 returns-refused c =
@@ -19,8 +19,8 @@ returns-model c =
 
 pub validate-spec : {M : Type 1} → f.Statement.statement M
 validate-spec = f.Tie.close (f.Tie.spec
-    (search needs)
-    (search needs)
+    (search rules)
+    (search rules)
     enum_told
     returns-refused
     returns-model)

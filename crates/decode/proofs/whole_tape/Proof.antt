@@ -2,7 +2,7 @@
 use Rattle.decode.proofs as our
 use our.Lists.{tape-stop, tape_long, tape-kept}
 use our.whole_tape as f
-use Rattle.machine.specs.All.{needs}
+use Rattle.machine.specs.All.{rules}
 
 returns-refused : f.Tie.Need-returns
 returns-refused c =
@@ -30,10 +30,10 @@ pub whole-tape-spec : {M : Type 1} → f.Statement.statement M
 whole-tape-spec =
     f.Tie.close
     (f.Tie.spec
-    (search needs)
-    (search needs)
-    (search needs)
-    (search needs)
+    (search rules)
+    (search rules)
+    (search rules)
+    (search rules)
     returns-refused
     returns-end-is-not-len
     returns-at)

@@ -1,12 +1,12 @@
 -- `run` meets its contract: a refused run touches nothing; an accepted one is the machine's. Assumes nothing.
 use Rattle.engine_laws.proofs.Running.{run-refused, fits, run-finished}
-use Rattle.machine.specs.All.{needs}
+use Rattle.machine.specs.All.{rules}
 use Rattle.engine.proofs as our
 use our.run.Statement.{statement}
 use our.run.Tie as tie
 
 refused-requires : tie.Need-refused-requires
-refused-requires c κs = search needs
+refused-requires c κs = search rules
 
 accepted-requires : tie.Need-accepted-requires
 accepted-requires c κs =
@@ -26,13 +26,13 @@ returns-refused c =
     run-refused _ _ _ _ _ _ _ _ _ at-decode.decode.ensures _ _ at-decoded.decoded.given.1 c.refused.ensures
 
 same_length : tie.Need-same-length
-same_length c = search needs
+same_length c = search rules
 
 same-length-2 : tie.Need-same-length-2
-same-length-2 c = search needs
+same-length-2 c = search rules
 
 same-length-3 : tie.Need-same-length-3
-same-length-3 c = search needs
+same-length-3 c = search rules
 
 returns-model : tie.Need-returns-2
 returns-model c =
@@ -47,10 +47,10 @@ pub run_spec : {M : Type 1} → statement M
 run_spec =
     tie.close
     (tie.spec
-    (search needs)
-    (search needs)
+    (search rules)
+    (search rules)
     refused-requires
-    (search needs)
+    (search rules)
     accepted-requires
     returns-refused
     same_length

@@ -2,7 +2,7 @@
 use Rattle.join.proofs as our
 use our.Pairing.{first-refused, second-refused, pair-ready, pair-done}
 use our.join as f
-use Rattle.machine.specs.All.{needs}
+use Rattle.machine.specs.All.{rules}
 
 pair-requires : f.Tie.Need-pair-requires
 pair-requires c κs =
@@ -57,15 +57,15 @@ pub join-spec : {M : Type 1} → f.Statement.statement M
 join-spec =
     f.Tie.close
     (f.Tie.spec
-    (search needs)
-    (search needs)
-    (search needs)
-    (search needs)
-    (search needs)
-    (search needs)
+    (search rules)
+    (search rules)
+    (search rules)
+    (search rules)
+    (search rules)
+    (search rules)
     pair-requires
     returns
     returns-2
-    (search needs)
-    (search needs)
+    (search rules)
+    (search rules)
     returns-3)

@@ -1,5 +1,5 @@
 -- `join::joined_model` meets its contract: the room it keeps suffices.
-use Rattle.machine.specs.All.{ℕ, length-replicate, needs}
+use Rattle.machine.specs.All.{ℕ, length-replicate, rules}
 use Rattle.join.proofs as our
 use our.Outputs.{model-left, model-copied, copy-room}
 use our.joined_model as f
@@ -35,4 +35,4 @@ returns-2 c =
 
 pub joined-model-spec : {M : Type 1} → f.Statement.statement M
 joined-model-spec =
-    f.Tie.close (f.Tie.spec (search needs) (search needs) returns (search needs) copy-requires (search needs) returns-2)
+    f.Tie.close (f.Tie.spec (search rules) (search rules) returns (search rules) copy-requires (search rules) returns-2)

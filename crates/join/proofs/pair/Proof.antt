@@ -1,5 +1,5 @@
 -- `join::pair` meets its contract: 61, 62, or both outputs.
-use Rattle.machine.specs.All.{length, refl, sym, ◌∙◌, not-true, not-false, leb-true, needs}
+use Rattle.machine.specs.All.{length, refl, sym, ◌∙◌, not-true, not-false, leb-true, rules}
 use Rattle.join.proofs as our
 use our.Outputs.{sum_fits, may-join-asked, not-joinable, no-tape-room, no-model-room, both-written}
 use our.pair as f
@@ -53,7 +53,7 @@ joined-model-requires c κs =
     at-number2.number2.ensures
     at-may-join.may-join.ensures
     ∙ not-false _ at-else1.if1.left in
-    ((ready.first, ready.second), ready.room (search needs) (search needs) may)
+    ((ready.first, ready.second), ready.room (search rules) (search rules) may)
 
 returns-3 : f.Tie.Need-returns-3
 returns-3 c =
@@ -92,7 +92,7 @@ add c =
       fits = sum_fits with.tape1.now with.tape2.now (length with.out-tape.now)
           (sym at-room-for.room_for.ensures
           ∙ not-false _ at-else2.if2.left)
-          (search (start.good.1.1.1.1.1.1.1, needs));
+          (search (start.good.1.1.1.1.1.1.1, rules));
     }
 
 returns-4 : f.Tie.Need-returns-4
@@ -122,17 +122,17 @@ pub pair_spec : {M : Type 1} → f.Statement.statement M
 pair_spec =
     f.Tie.close
     (f.Tie.spec
-    (search needs)
-    (search needs)
+    (search rules)
+    (search rules)
     may-join-requires
     returns
-    (search needs)
+    (search rules)
     returns-2
     joined-model-requires
-    (search needs)
+    (search rules)
     returns-3
     end-to-end-requires
     add
-    (search needs)
-    (search needs)
+    (search rules)
+    (search rules)
     returns-4)

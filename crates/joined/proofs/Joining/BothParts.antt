@@ -4,11 +4,11 @@ use Rattle.machine.proofs.Decoding.Proper.{Names, servers, Proper}
 use Rattle.machine.proofs.{Lists.Sums.up_to_cong, Decoding.Groups.blocks-placed, Decoding.Groups.back-within, Runs.Placed.goes_on}
 use Rattle.joined.specs.{Part, first, second, block_in, join_models, in_part, server_in, sum_in}
 use Rattle.joined.proofs as our
-use our.relation.Seen.{size, server_there}
-use our.own.Terms.{Plain, PlainSum, get_or-behind}
-use our.own.Inside.{PlainBlock, Inside, share-units}
-use our.other.Strangers.{Facing, back_in}
-use our.joining.Numbering.{in-facility, Place, facility, storage, place, tables, not_in, is_in, in_bounds, in-storage}
+use our.Relation.Seen.{size, server_there}
+use our.Own.Terms.{Plain, PlainSum, get_or-behind}
+use our.Own.Inside.{PlainBlock, Inside, share-units}
+use our.Other.Strangers.{Facing, back_in}
+use our.Joining.Numbering.{in-facility, Place, facility, storage, place, tables, not_in, is_in, in_bounds, in-storage}
 
 -- ---- They face each other
 

@@ -4,8 +4,8 @@ use Rattle.machine.proofs.Decoding.Proper.{Names, ProperBlock, Proper}
 use Rattle.machine.proofs.{Lists.Sums.up_to_cong, Decoding.Groups.and_left, Decoding.Groups.and_right}
 use Rattle.joined.specs.{Part, first, second, term_in, sum_in, block_in, join_models, server_in}
 use Rattle.joined.proofs as our
-use our.other.Strangers.{Leaves-in, back_in}
-use our.joining.BothParts.{blocks_long, block-first, block-second, back-first, back-second, back-past, group-first}
+use our.Other.Strangers.{Leaves-in, back_in}
+use our.Joining.BothParts.{blocks_long, block-first, block-second, back-first, back-second, back-past, group-first}
 
 both_of : (a b : Bool) → T a → T b → T (a && b)
 both_of true b h k = k

@@ -4,14 +4,14 @@ use Rattle.machine.proofs.Decoding.Proper.{Names, servers, ProperBlock, Proper}
 use Rattle.machine.proofs.{Runs.Shape.wel-below, NobodyAble.WaitsKept.waits_start, Basic.Lists.same_at}
 use Rattle.joined.specs.{Part, first, second, server_in, block_in, join_models, join_tapes}
 use Rattle.joined.proofs as our
-use our.{own.Terms.get_or-behind, relation.Naming.Naming, own.Inside.Inside, own.Moves.Together, own.Makes.After, own.Effect.in-part, turns.Simulation.Joint, relation.Paces.Moving, other.Effect.nobody as nobodyMoves}
-use our.relation.Seen.{Alike, SameServer}
-use our.other.Strangers.{Facing, outside_in}
-use our.joining.BothParts.{blocks_long, servers_long}
-use our.lists.Ranks.{rank-zero, nobody, listed-within}
-use our.relation.Paces.{away, level, same, Pace, rebased, rebase}
-use our.joining.Start.{Starting, start_at-gates, start_at-append, others-start, own-start}
-use our.joining.Numbering.{Place, facility, storage, place}
+use our.{Own.Terms.get_or-behind, Relation.Naming.Naming, Own.Inside.Inside, Own.Moves.Together, Own.Makes.After, Own.Effect.in-part, Turns.Simulation.Joint, Relation.Paces.Moving, Other.Effect.nobody as nobodyMoves}
+use our.Relation.Seen.{Alike, SameServer}
+use our.Other.Strangers.{Facing, outside_in}
+use our.Joining.BothParts.{blocks_long, servers_long}
+use our.Lists.Ranks.{rank-zero, nobody, listed-within}
+use our.Relation.Paces.{away, level, same, Pace, rebased, rebase}
+use our.Joining.Start.{Starting, start_at-gates, start_at-append, others-start, own-start}
+use our.Joining.Numbering.{Place, facility, storage, place}
 
 -- ---- The empty machine
 

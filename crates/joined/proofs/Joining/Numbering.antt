@@ -3,8 +3,8 @@ use Rattle.machine.specs.All.{ℕ, ◌+◌, ◌-◌, ◌≤◌, ◌<◌, ◌≡�
 use Rattle.machine.proofs.{Decoding.Proper.servers, Basic.Bools.and_true}
 use Rattle.joined.specs.{Part, server_in, in_part}
 use Rattle.joined.proofs as our
-use our.relation.Seen.{Tables}
-use our.relation.Seen.{Gate, gate_there, gate_here}
+use our.Relation.Seen.{Tables}
+use our.Relation.Seen.{Gate, gate_there, gate_here}
 
 -- ---- Servers
 

@@ -5,9 +5,9 @@ use Rattle.machine.proofs.Decoding.Proper.{Names, Storage, CodeServer, Units, Pr
 use Rattle.machine.proofs.Basic.Bools.{and_true}
 use Rattle.joined.specs.{Part, first, second, server_in, share_in, block_in, join_models, join_tapes, joinable}
 use Rattle.joined.proofs as our
-use our.{own.Terms.get_or-behind, joining.Formed.formed}
-use our.joining.Numbering.{in-facility, in-storage}
-use our.joining.BothParts.{blocks_long, block-first, block-second}
+use our.{Own.Terms.get_or-behind, Joining.Formed.formed}
+use our.Joining.Numbering.{in-facility, in-storage}
+use our.Joining.BothParts.{blocks_long, block-first, block-second}
 
 -- ---- Where no limit is passed
 

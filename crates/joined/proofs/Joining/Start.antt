@@ -4,11 +4,11 @@ use Rattle.machine.proofs.Decoding.Proper.{Names, ProperBlock, Role, role, gener
 use Rattle.machine.proofs.Lists.Cases.{start_of-cases}
 use Rattle.joined.specs.{Part, block_in, in_part}
 use Rattle.joined.proofs as our
-use our.{relation.Naming.Naming, own.Moves.Together, own.Steps.times-seen, own.Effect.in-part}
-use our.other.Steps.{OtherList, Beside}
-use our.relation.Seen.{size, Tables}
-use our.other.Effect.{Outside, arrival-other}
-use our.own.Makes.{After, after-here, after_then, arrival-own}
+use our.{Relation.Naming.Naming, Own.Moves.Together, Own.Steps.times-seen, Own.Effect.in-part}
+use our.Other.Steps.{OtherList, Beside}
+use our.Relation.Seen.{size, Tables}
+use our.Other.Effect.{Outside, arrival-other}
+use our.Own.Makes.{After, after-here, after_then, arrival-own}
 
 -- ---- Nobody waits on a WEL
 

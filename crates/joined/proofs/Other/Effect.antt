@@ -5,10 +5,10 @@ use Rattle.machine.proofs.Basic.Each.{each_map, each-pair, each-insert, each-tho
 use Rattle.machine.proofs.Lists.Cases.{check_wels-kept, wait_server-cases, wait_terms-cases, assemble-cases, preempt-cases, give_back-cases}
 use Rattle.joined.specs.{Part, server_in, in_part}
 use Rattle.joined.proofs as our
-use our.lists.Members.{those-insert-other, those_replace-other, sorted_insert, sorted_replace, by-holder}
-use our.relation.Naming.{Naming, mine}
-use our.relation.Seen.{size, Tables, OfPart, Seen}
-use our.other.Steps.{OtherServer, OtherQueue, OtherList, OtherRow, Beside, put-fel, put-interrupted, log-other, enters-other, to_rel-other, to_fel-other, wsl-other, ql-other, wel-other, wake_ql-other, wake_first_wel-other, set_use-other, set_content-other, use_time-other, gatherers-other, fresh-other, Made-other}
+use our.Lists.Members.{those-insert-other, those_replace-other, sorted_insert, sorted_replace, by-holder}
+use our.Relation.Naming.{Naming, mine}
+use our.Relation.Seen.{size, Tables, OfPart, Seen}
+use our.Other.Steps.{OtherServer, OtherQueue, OtherList, OtherRow, Beside, put-fel, put-interrupted, log-other, enters-other, to_rel-other, to_fel-other, wsl-other, ql-other, wel-other, wake_ql-other, wake_first_wel-other, set_use-other, set_content-other, use_time-other, gatherers-other, fresh-other, Made-other}
 
 -- ---- What a block of the other part names
 

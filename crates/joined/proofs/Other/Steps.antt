@@ -3,13 +3,13 @@ use Rattle.machine.specs.All.{ℕ, suc, ◌-◌, ◌<◌, ◌≡◌, Bool, false
 use Rattle.machine.proofs.{Decoding.Proper.Names, Decoding.Proper.servers, Lists.Sorted.at_set, Basic.Each.each-drop, Lists.Lines.each-line_up, Basic.Lists.those-none}
 use Rattle.joined.specs.{Part}
 use Rattle.joined.proofs as our
-use our.lists.Members.{those-insert-other, sorted_insert, by_precedence, by-time}
-use our.lists.Tables.{Rows, rows_other}
-use our.relation.NewNames.{serial-other, number-other}
-use our.own.Steps.{shown-wake}
-use our.relation.Naming.{Naming, mine, event_as}
-use our.relation.Seen.{size, block_there, queue_there, list_there, server_there, here, Gate, AtServer, gate_there, gate_here, alone_as, interrupted_as, Alike, Shown, SameServer, OfPart, Seen, Tables}
-use our.relation.Naming.{Known, gatherer_as}
+use our.Lists.Members.{those-insert-other, sorted_insert, by_precedence, by-time}
+use our.Lists.Tables.{Rows, rows_other}
+use our.Relation.NewNames.{serial-other, number-other}
+use our.Own.Steps.{shown-wake}
+use our.Relation.Naming.{Naming, mine, event_as}
+use our.Relation.Seen.{size, block_there, queue_there, list_there, server_there, here, Gate, AtServer, gate_there, gate_here, alone_as, interrupted_as, Alike, Shown, SameServer, OfPart, Seen, Tables}
+use our.Relation.Naming.{Known, gatherer_as}
 
 -- ---- What the part does not have
 

@@ -4,14 +4,14 @@ use Rattle.machine.proofs.Decoding.Proper.{Names, servers, ProperBlock, code-ser
 use Rattle.machine.proofs.Basic.Each.{each_map, each-pair}
 use Rattle.joined.specs.{Part, server_in, share_in, condition_in, block_in, in_part}
 use Rattle.joined.proofs as our
-use our.{lists.Members.no_true, own.Effect.in-part, other.Effect.Outside, turns.OneTurn.block_of, turns.PartTurns.Strange}
-use our.lists.Ranks.{Named, listed, nobody}
-use our.relation.Naming.{Naming, mine, Known}
-use our.relation.Seen.{size, server_there, queue_there, list_there, Seen}
-use our.own.Inside.{Inside, block-seen, share-server as share-image}
-use our.own.Moves.{Standing, standing}
-use our.own.Preempt.{NotOurs, Others}
-use our.other.Steps.{OtherServer, OtherRow, other_gate}
+use our.{Lists.Members.no_true, Own.Effect.in-part, Other.Effect.Outside, Turns.OneTurn.block_of, Turns.PartTurns.Strange}
+use our.Lists.Ranks.{Named, listed, nobody}
+use our.Relation.Naming.{Naming, mine, Known}
+use our.Relation.Seen.{size, server_there, queue_there, list_there, Seen}
+use our.Own.Inside.{Inside, block-seen, share-server as share-image}
+use our.Own.Moves.{Standing, standing}
+use our.Own.Preempt.{NotOurs, Others}
+use our.Other.Steps.{OtherServer, OtherRow, other_gate}
 
 -- ---- Definition
 

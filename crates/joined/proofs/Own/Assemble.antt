@@ -3,12 +3,12 @@ use Rattle.machine.specs.All.{ℕ, suc, ◌-◌, ◌≡◌, refl, Bool, true, fa
 use Rattle.machine.proofs.Basic.Each.{each_map, each-insert, each-those, each_replace}
 use Rattle.joined.specs.{Part, in_part}
 use Rattle.joined.proofs as our
-use our.lists.Members.{insert-map, those-map, replace-map}
-use our.lists.Tables.{rows-put, rows_at}
-use our.relation.Naming.{Naming, Known, gatherer_as, precedes-seen, family-seen}
-use our.relation.Seen.{size, block_there, Tables, alone_as, Alike}
-use our.own.Moves.{Standing, standing, Together, put-gatherers}
-use our.own.Makes.{After, to_rel-after, next-back, Puts}
+use our.Lists.Members.{insert-map, those-map, replace-map}
+use our.Lists.Tables.{rows-put, rows_at}
+use our.Relation.Naming.{Naming, Known, gatherer_as, precedes-seen, family-seen}
+use our.Relation.Seen.{size, block_there, Tables, alone_as, Alike}
+use our.Own.Moves.{Standing, standing, Together, put-gatherers}
+use our.Own.Makes.{After, to_rel-after, next-back, Puts}
 
 module _ (p : Part) (m : BlockModel) (T : Tables p m) where
   abbrev n : ℕ

@@ -3,17 +3,17 @@ use Rattle.machine.specs.All.{ℕ, suc, ◌+◌, ◌-◌, ◌≤◌, ◌<◌, �
 use Rattle.machine.proofs.Decoding.Proper.{Names, servers, ProperShare, ProperBlock, code-server, share-server}
 use Rattle.joined.specs.{Part, server_in, share_in, term_in, condition_in, block_in, in_part}
 use Rattle.joined.proofs as our
-use our.lists.Ranks.{listed, nobody, rank_in, rank-zero, Named}
-use our.relation.Naming.{Naming, Known, event_as, gatherer_as}
-use our.relation.Seen.{size, Tables, alone_as, interrupted_as, Seen}
-use our.own.Terms.{evaluate-same, truth-same, PlainCondition}
-use our.own.Inside.{PlainBlock, Inside, share-server as share-image, share-units}
-use our.own.Moves.{Standing, standing, Together, enters-own, ql-own, wel-own, wsl-own}
-use our.own.Steps.{ql-seen, server-seen, wake_ql-own, wake_first_wel-own, set_use-own, set_content-own, content-seen, times-seen, status-seen, check_wels-own}
-use our.own.Makes.{After, after-here, to_rel-after, arrival-own, copies-own, delay-own, next-back, begin_wait-own, must_wait-own}
-use our.own.Assemble.{waits_for-seen, comes-own, released-own, gatherers-put}
-use our.own.Preempt.{Others, losers-seen, interrupt-own, interrupted_at-seen, resume-own}
-use our.own.Parting.{parts-own}
+use our.Lists.Ranks.{listed, nobody, rank_in, rank-zero, Named}
+use our.Relation.Naming.{Naming, Known, event_as, gatherer_as}
+use our.Relation.Seen.{size, Tables, alone_as, interrupted_as, Seen}
+use our.Own.Terms.{evaluate-same, truth-same, PlainCondition}
+use our.Own.Inside.{PlainBlock, Inside, share-server as share-image, share-units}
+use our.Own.Moves.{Standing, standing, Together, enters-own, ql-own, wel-own, wsl-own}
+use our.Own.Steps.{ql-seen, server-seen, wake_ql-own, wake_first_wel-own, set_use-own, set_content-own, content-seen, times-seen, status-seen, check_wels-own}
+use our.Own.Makes.{After, after-here, to_rel-after, arrival-own, copies-own, delay-own, next-back, begin_wait-own, must_wait-own}
+use our.Own.Assemble.{waits_for-seen, comes-own, released-own, gatherers-put}
+use our.Own.Preempt.{Others, losers-seen, interrupt-own, interrupted_at-seen, resume-own}
+use our.Own.Parting.{parts-own}
 use lib.IntN.{ℤ}
 
 module _ (p : Part) (m : BlockModel) where

@@ -4,10 +4,10 @@ use lib.IntN.{ℤ}
 use Rattle.machine.proofs.Decoding.Proper.{Names, ProperBlock}
 use Rattle.joined.specs.{Part, server_in, share_in, condition_in, block_in}
 use Rattle.joined.proofs as our
-use our.relation.Naming.{Naming, Known}
-use our.own.Moves.{standing}
-use our.relation.Seen.{size, Tables, alone_as, Fixtures}
-use our.own.Terms.{Plain, PlainCondition, Values, truth-same}
+use our.Relation.Naming.{Naming, Known}
+use our.Own.Moves.{standing}
+use our.Relation.Seen.{size, Tables, alone_as, Fixtures}
+use our.Own.Terms.{Plain, PlainCondition, Values, truth-same}
 
 -- ---- Definition
 

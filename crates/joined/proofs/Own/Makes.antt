@@ -3,12 +3,12 @@ use Rattle.machine.specs.All.{ℕ, zero, suc, ◌+◌, ◌-◌, ◌≡◌, refl,
 use Rattle.machine.proofs.Decoding.Proper.{Names}
 use Rattle.joined.specs.{Part, in_part}
 use Rattle.joined.proofs as our
-use our.lists.Ranks.{rank_in, rank-zero, rank-noted, noted}
-use our.relation.Naming.{Naming, mine, Known, Ours, ours}
-use our.relation.Seen.{size, Tables, alone_as}
-use our.relation.NewNames.{with_serial_of, with_number_of, Keeps, serial-seen, number-seen, keeps-serial, keeps-number, known-fresh, alone-fresh}
-use our.own.Moves.{standing, Together, log-own}
-use our.own.Steps.{to_rel-own, to_fel-own, use_time-own}
+use our.Lists.Ranks.{rank_in, rank-zero, rank-noted, noted}
+use our.Relation.Naming.{Naming, mine, Known, Ours, ours}
+use our.Relation.Seen.{size, Tables, alone_as}
+use our.Relation.NewNames.{with_serial_of, with_number_of, Keeps, serial-seen, number-seen, keeps-serial, keeps-number, known-fresh, alone-fresh}
+use our.Own.Moves.{standing, Together, log-own}
+use our.Own.Steps.{to_rel-own, to_fel-own, use_time-own}
 
 module _ (p : Part) (m : BlockModel) where
   -- ---- Some names were given

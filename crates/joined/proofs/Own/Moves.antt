@@ -3,11 +3,11 @@ use Rattle.machine.specs.All.{ℕ, suc, ◌+◌, ◌-◌, ◌≤◌, ◌<◌, �
 use Rattle.machine.proofs.{Decoding.Proper.Names, Decoding.Proper.servers, Basic.Each.each_map, Basic.Each.each-insert, Lists.Lines.each-line_up, Basic.Bools.and_true}
 use Rattle.joined.specs.{Part, server_in, in_part}
 use Rattle.joined.proofs as our
-use our.lists.Members.{insert-map, those-insert, sorted_insert, by-time, by_precedence}
-use our.lists.Tables.{Rows, rows-set, rows-put, rows_at}
-use our.relation.Naming.{Naming, mine, Known, event_as, gatherer_as, earlier-seen, part-insert, known-insert, line_up-seen}
-use our.relation.Seen.{size, block_there, queue_there, list_there, server_there, here, Gate, AtServer, gate_there, gate_here, Tables, alone_as, interrupted_as, Alike, Shown, SameServer, OfPart, Seen}
-use our.relation.Seen.{record_as}
+use our.Lists.Members.{insert-map, those-insert, sorted_insert, by-time, by_precedence}
+use our.Lists.Tables.{Rows, rows-set, rows-put, rows_at}
+use our.Relation.Naming.{Naming, mine, Known, event_as, gatherer_as, earlier-seen, part-insert, known-insert, line_up-seen}
+use our.Relation.Seen.{size, block_there, queue_there, list_there, server_there, here, Gate, AtServer, gate_there, gate_here, Tables, alone_as, interrupted_as, Alike, Shown, SameServer, OfPart, Seen}
+use our.Relation.Seen.{record_as}
 
 -- where a block of the part stands there and here
 pub record Standing (p : Part) (m : BlockModel) (block : ℕ) : Type 0 where

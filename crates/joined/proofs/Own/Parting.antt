@@ -3,11 +3,11 @@ use Rattle.machine.specs.All.{ℕ, ◌-◌, ◌≡◌, refl, ap, ◌∙◌, Bool
 use Rattle.machine.proofs.{Basic.Each.each_map, Lists.Lines.both-part_for}
 use Rattle.joined.specs.{Part, server_in, share_in}
 use Rattle.joined.proofs as our
-use our.lists.Members.{those-map, take-map, drop-map}
-use our.relation.Naming.{Naming, Known}
-use our.own.Inside.{Inside, units-seen}
-use our.own.Steps.{Parting}
-use our.relation.Seen.{size, alone_as, Alike, SameServer}
+use our.Lists.Members.{those-map, take-map, drop-map}
+use our.Relation.Naming.{Naming, Known}
+use our.Own.Inside.{Inside, units-seen}
+use our.Own.Steps.{Parting}
+use our.Relation.Seen.{size, alone_as, Alike, SameServer}
 
 module _ (p : Part) (m M : BlockModel) (I : Inside p m M) (N : Naming) where
   abbrev K : Transaction → Type 0

@@ -4,13 +4,13 @@ use Rattle.machine.proofs.Decoding.Proper.{Names, servers}
 use Rattle.machine.proofs.Basic.Each.{each_map, each-pair, each-insert, each-those, each_replace, each-passes}
 use Rattle.joined.specs.{Part, server_in}
 use Rattle.joined.proofs as our
-use our.lists.Members.{insert-map, those-map, replace-map, those-those, those-all, those_replace, those-insert, sorted_insert, sorted_replace, by-holder}
-use our.lists.Ranks.{Named, listed, nobody, rank-eqb}
-use our.relation.Naming.{Naming, mine, Known, ours, event_as, precedes-seen}
-use our.relation.Seen.{size, Tables, alone_as, interrupted_as, Alike, SameServer, OfPart}
-use our.own.Moves.{Together, put-fel, put-interrupted}
-use our.own.Steps.{server-seen}
-use our.own.Makes.{After, to_fel-after}
+use our.Lists.Members.{insert-map, those-map, replace-map, those-those, those-all, those_replace, those-insert, sorted_insert, sorted_replace, by-holder}
+use our.Lists.Ranks.{Named, listed, nobody, rank-eqb}
+use our.Relation.Naming.{Naming, mine, Known, ours, event_as, precedes-seen}
+use our.Relation.Seen.{size, Tables, alone_as, interrupted_as, Alike, SameServer, OfPart}
+use our.Own.Moves.{Together, put-fel, put-interrupted}
+use our.Own.Steps.{server-seen}
+use our.Own.Makes.{After, to_fel-after}
 
 -- a transaction of the other part has no number of this one
 pub record NotOurs (N : Naming) (t : Transaction) : Type 0 where

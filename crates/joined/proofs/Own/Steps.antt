@@ -3,13 +3,13 @@ use Rattle.machine.specs.All.{ℕ, ◌+◌, ◌≡◌, refl, sym, ap, ◌∙◌,
 use Rattle.machine.proofs.{Decoding.Proper.Names, Decoding.Proper.servers, Basic.Each.each_map, Basic.Each.each-those, Basic.Each.each-drop, Lists.Sorted.sorted-those}
 use Rattle.joined.specs.{Part, server_in}
 use Rattle.joined.proofs as our
-use our.lists.Members.{those-map, take-map, drop-map, those-those, those-all}
-use our.lists.Tables.{rows-set}
-use our.lists.Ranks.{Named, rank_in}
-use our.relation.Naming.{Naming, mine, Known, Ours, wake-seen}
-use our.relation.Seen.{size, Gate, Tables, alone_as, Alike, Shown, SameServer}
-use our.relation.NewNames.{with_serial_of, serial-seen, known-fresh, alone-fresh}
-use our.own.Moves.{Together, rel-own, fel-own, put-rel, put-wsl, put-ql, put-wel, put-samples, put-servers, put-queues}
+use our.Lists.Members.{those-map, take-map, drop-map, those-those, those-all}
+use our.Lists.Tables.{rows-set}
+use our.Lists.Ranks.{Named, rank_in}
+use our.Relation.Naming.{Naming, mine, Known, Ours, wake-seen}
+use our.Relation.Seen.{size, Gate, Tables, alone_as, Alike, Shown, SameServer}
+use our.Relation.NewNames.{with_serial_of, serial-seen, known-fresh, alone-fresh}
+use our.Own.Moves.{Together, rel-own, fel-own, put-rel, put-wsl, put-ql, put-wel, put-samples, put-servers, put-queues}
 
 module _ (p : Part) (m : BlockModel) (T : Tables p m) where
   -- ---- With a fresh serial

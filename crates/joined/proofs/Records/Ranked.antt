@@ -3,10 +3,10 @@ use Rattle.machine.specs.All.{ℕ, ◌-◌, ◌≤◌, ◌≡◌, refl, sym, ap,
 use Rattle.machine.proofs.{Basic.Each.each_map, Lists.Sums.up_to_cong}
 use Rattle.joined.specs.{Part, in_part, records_in, rank, by_rank, part_of}
 use Rattle.joined.proofs as our
-use our.lists.Members.{reverse-map, map_same, no_true, All-same}
-use our.lists.Ranks.{rank_in, rank_less, rank_mono, rank-eqb, listed, listed-within}
-use our.relation.Naming.{Naming}
-use our.relation.Seen.{size, record_as, Seen}
+use our.Lists.Members.{reverse-map, map_same, no_true, All-same}
+use our.Lists.Ranks.{rank_in, rank_less, rank_mono, rank-eqb, listed, listed-within}
+use our.Relation.Naming.{Naming}
+use our.Relation.Seen.{size, record_as, Seen}
 
 -- ---- Selection and reversal
 

@@ -4,8 +4,8 @@ use Rattle.machine.proofs.{Decoding.Proper.Proper, Decoding.Proper.servers, Dema
 use Rattle.machine.proofs.Basic.Each.{each_append, each-flat, each_mapped, each_set, each-get_or, each_map, each-insert, each-those, each-drop, each_replace}
 use Rattle.machine.proofs.Lists.Cases.{check_wels-kept, wait_server-cases, wait_terms-cases, assemble-cases, preempt-cases, give_back-cases, ws_scheme-cases, start_of-cases}
 use Rattle.joined.proofs as our
-use our.turns.DryEnd.{Dries, dry, turns, dries}
-use our.turns.DryRuns.{empty_of}
+use our.Turns.DryEnd.{Dries, dry, turns, dries}
+use our.Turns.DryRuns.{empty_of}
 
 -- ---- Definition
 

@@ -4,8 +4,8 @@ use Rattle.machine.specs.All.{ℕ, ◌-◌, ◌≡◌, refl, Bool, true, false, 
 use Rattle.machine.proofs.{Basic.Each.each_map, Basic.Each.each-insert, Lists.Sorted.Sorted, Lists.Sorted.sorted_in, Lists.Lines.meets}
 use Rattle.joined.specs.{Part, in_part}
 use Rattle.joined.proofs as our
-use our.lists.Members.{insert-map, reverse-map, All-same, those-insert, those-insert-other, by_precedence}
-use our.lists.Ranks.{Roll, rank_in, rank-ltb, rank-eqb, listed}
+use our.Lists.Members.{insert-map, reverse-map, All-same, those-insert, those-insert-other, by_precedence}
+use our.Lists.Ranks.{Roll, rank_in, rank-ltb, rank-eqb, listed}
 
 -- ---- Definition
 

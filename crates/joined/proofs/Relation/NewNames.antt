@@ -3,10 +3,10 @@ use Rattle.machine.specs.All.{ℕ, suc, ◌+◌, ◌-◌, ◌≤◌, ◌≡◌, 
 use Rattle.machine.proofs.Basic.Each.{each_map}
 use Rattle.joined.specs.{Part, in_part}
 use Rattle.joined.proofs as our
-use our.{lists.Members.map_same, lists.Tables.rows-map, relation.Naming.gatherer_as}
-use our.lists.Ranks.{rank_in, rank-zero, rank_skip, Named, listed, nobody, noting, Upto, noted, noting-below, rank-noting, rank-noted, noting-upto, listed-within}
-use our.relation.Naming.{Naming, Known, Ours, event_as}
-use our.relation.Seen.{size, alone_as, record_as, interrupted_as, Alike, Shown, SameServer, Fixtures, Lined, Listed, Told, Seen}
+use our.{Lists.Members.map_same, Lists.Tables.rows-map, Relation.Naming.gatherer_as}
+use our.Lists.Ranks.{rank_in, rank-zero, rank_skip, Named, listed, nobody, noting, Upto, noted, noting-below, rank-noting, rank-noted, noting-upto, listed-within}
+use our.Relation.Naming.{Naming, Known, Ours, event_as}
+use our.Relation.Seen.{size, alone_as, record_as, interrupted_as, Alike, Shown, SameServer, Fixtures, Lined, Listed, Told, Seen}
 
 -- ---- What was given stays
 

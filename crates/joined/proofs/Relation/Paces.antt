@@ -6,14 +6,14 @@ use Rattle.machine.proofs.Basic.Each.{each_map, each-pair, each_unmap, each_mapp
 use Rattle.machine.proofs.Lists.Sorted.{Sorted}
 use Rattle.joined.specs.{Part}
 use Rattle.joined.proofs as our
-use our.relation.Naming.{Naming, mine, Known}
-use our.relation.Seen.{size, Tables, alone_as, Seen}
-use our.relation.NewNames.{Extends, fixtures-more, lined-more, listed_more, Told-more}
-use our.own.Inside.{Inside, waits_on-seen}
-use our.{own.Moves.Together, own.Makes.After, own.Effect.still}
-use our.other.Effect.{Away, nobody}
-use our.turns.ClockMove.{Due, not_yet, now, due?, moved, moved-there, moved_here, move_clock-own, move_clock-other, move_clock-unmoved, move_clock-view}
-use our.turns.OneTurn.{Ready, as_is, clock_moved, handed, hand, first_taken}
+use our.Relation.Naming.{Naming, mine, Known}
+use our.Relation.Seen.{size, Tables, alone_as, Seen}
+use our.Relation.NewNames.{Extends, fixtures-more, lined-more, listed_more, Told-more}
+use our.Own.Inside.{Inside, waits_on-seen}
+use our.{Own.Moves.Together, Own.Makes.After, Own.Effect.still}
+use our.Other.Effect.{Away, nobody}
+use our.Turns.ClockMove.{Due, not_yet, now, due?, moved, moved-there, moved_here, move_clock-own, move_clock-other, move_clock-unmoved, move_clock-view}
+use our.Turns.OneTurn.{Ready, as_is, clock_moved, handed, hand, first_taken}
 
 -- ---- What each member of a renamed list is
 

@@ -7,9 +7,9 @@ use Rattle.machine.specs.All.{ℕ, ◌+◌, ◌-◌, ◌≤◌, ◌≡◌, Bool,
 use Rattle.machine.proofs.{Decoding.Proper.Names, Decoding.Proper.servers, Lists.Sorted.Sorted}
 use Rattle.joined.specs.{Part, server_in, in_part}
 use Rattle.joined.proofs as our
-use our.lists.Tables.{Rows, Matched}
-use our.lists.Ranks.{Named, rank_in, Upto}
-use our.relation.Naming.{Naming, mine, seen_as_lem, Known, event_as, gatherer_as}
+use our.Lists.Tables.{Rows, Matched}
+use our.Lists.Ranks.{Named, rank_in, Upto}
+use our.Relation.Naming.{Naming, mine, seen_as_lem, Known, event_as, gatherer_as}
 
 module _ (p : Part) (m : BlockModel) where
   abbrev pub size : ℕ

@@ -3,12 +3,12 @@ use Rattle.machine.specs.All.{ℕ, zero, suc, ◌-◌, ◌≤◌, ◌<◌, ◌�
 use Rattle.machine.proofs.{Decoding.Proper.servers, Basic.Each.each_map, Basic.Each.each-those, Basic.Lists.those-none, Lists.Sorted.Sorted, Lists.Sorted.sorted-those, Lists.Sorted.later-time}
 use Rattle.joined.specs.{Part}
 use Rattle.joined.proofs as our
-use our.lists.Members.{strictly, All-same, those-map, those-those, those-all, those-insert-other, sorted_insert, by_precedence, map_same}
-use our.relation.Naming.{Naming, mine, Known, event_as}
-use our.relation.Seen.{size, Tables, SameServer, Fixtures, Seen}
-use our.{relation.NewNames.serial-other, own.Moves.Together, lists.Ranks.rank_in}
-use our.own.Makes.{After, after-here, after_then, to_rel-after}
-use our.relation.Seen.{server_there, queue_there, here}
+use our.Lists.Members.{strictly, All-same, those-map, those-those, those-all, those-insert-other, sorted_insert, by_precedence, map_same}
+use our.Relation.Naming.{Naming, mine, Known, event_as}
+use our.Relation.Seen.{size, Tables, SameServer, Fixtures, Seen}
+use our.{Relation.NewNames.serial-other, Own.Moves.Together, Lists.Ranks.rank_in}
+use our.Own.Makes.{After, after-here, after_then, to_rel-after}
+use our.Relation.Seen.{server_there, queue_there, here}
 
 -- ---- Statistics are not seen
 

@@ -3,12 +3,12 @@ use Rattle.machine.specs.All.{ℕ, zero, suc, ◌≡◌, refl, sym, ap, ◌∙�
 use Rattle.machine.proofs.{Decoding.Proper.Proper, Basic.Bools.and-three}
 use Rattle.joined.specs.{Part}
 use Rattle.joined.proofs as our
-use our.relation.Naming.{Naming, mine, event_as}
-use our.relation.Seen.{size, alone_as, Seen}
-use our.{own.Inside.Inside, other.Strangers.Facing}
-use our.turns.DryEnd.{Dries, dry, turns, dries}
-use our.relation.Paces.{Stands, same, behind, Pace, moving-none}
-use our.turns.Simulation.{Sane, sane-turn, Joint, Turns, one, two, whose}
+use our.Relation.Naming.{Naming, mine, event_as}
+use our.Relation.Seen.{size, alone_as, Seen}
+use our.{Own.Inside.Inside, Other.Strangers.Facing}
+use our.Turns.DryEnd.{Dries, dry, turns, dries}
+use our.Relation.Paces.{Stands, same, behind, Pace, moving-none}
+use our.Turns.Simulation.{Sane, sane-turn, Joint, Turns, one, two, whose}
 
 -- ---- Nobody is left
 

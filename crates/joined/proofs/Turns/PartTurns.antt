@@ -3,18 +3,18 @@ use Rattle.machine.specs.All.{ℕ, suc, ◌+◌, ◌-◌, ◌≤◌, ◌≡◌, 
 use Rattle.machine.proofs.{Basic.Each.each_map, Basic.Each.each-pair, Basic.Each.each_unmap, Lists.Sorted.sorted-those, Basic.Lists.those-none}
 use Rattle.joined.specs.{Part, in_part}
 use Rattle.joined.proofs as our
-use our.lists.Members.{those-those, those-all}
-use our.relation.Naming.{Naming, mine}
-use our.relation.Seen.{size, alone_as, Seen}
-use our.own.Inside.{Inside, block-seen, waits_on-seen}
-use our.own.Moves.{standing, Together}
-use our.own.Steps.{shown-wake, wake_wsl-own}
-use our.own.Effect.{Moved, still, goes, Done, in-part, effect-own}
-use our.{own.Preempt.Others, relation.Naming.Known, other.Steps.Beside}
-use our.other.Steps.{OtherServer, OtherRow}
-use our.other.Effect.{Outside, nobody, Left, effect-other}
-use our.turns.OneTurn.{settled, handed, block_of, turned, waits-on}
-use our.relation.Paces.{Moving, own, away, Clocked, level, resting, Stands, same, Pace, Paced, Takes}
+use our.Lists.Members.{those-those, those-all}
+use our.Relation.Naming.{Naming, mine}
+use our.Relation.Seen.{size, alone_as, Seen}
+use our.Own.Inside.{Inside, block-seen, waits_on-seen}
+use our.Own.Moves.{standing, Together}
+use our.Own.Steps.{shown-wake, wake_wsl-own}
+use our.Own.Effect.{Moved, still, goes, Done, in-part, effect-own}
+use our.{Own.Preempt.Others, Relation.Naming.Known, Other.Steps.Beside}
+use our.Other.Steps.{OtherServer, OtherRow}
+use our.Other.Effect.{Outside, nobody, Left, effect-other}
+use our.Turns.OneTurn.{settled, handed, block_of, turned, waits-on}
+use our.Relation.Paces.{Moving, own, away, Clocked, level, resting, Stands, same, Pace, Paced, Takes}
 
 module _ (p : Part) (m M : BlockModel) (I : Inside p m M) where
   abbrev n : ℕ

@@ -5,11 +5,11 @@ use Rattle.machine.proofs.Runs.Everybody.{Everybody, taking-everybody, Unmoved}
 use Rattle.machine.proofs.Runs.Shape.{Shape, shape_closed, shape-turn, server-length}
 use Rattle.joined.specs.{Part}
 use Rattle.joined.proofs as our
-use our.{lists.Ranks.listed-within, relation.Naming.Naming, relation.Seen.Seen, own.Inside.Inside, turns.ClockMove.move_clock-unmoved, turns.OneTurn.handed, turns.PartTurns.Strange}
-use our.relation.Paces.{Stands, Clocked, Pace, SameNumbers, Takes, rebased, rebase-pace}
-use our.turns.PartTurns.{own_turn, other-turn}
-use our.other.Strangers.{Facing, Rolls, others-there, strange}
-use our.turns.Taking.{Takings, moves, first, takings, Caught, ours, theirs, Catch, catch-moves, catch-ready, taken-moves, taken-first}
+use our.{Lists.Ranks.listed-within, Relation.Naming.Naming, Relation.Seen.Seen, Own.Inside.Inside, Turns.ClockMove.move_clock-unmoved, Turns.OneTurn.handed, Turns.PartTurns.Strange}
+use our.Relation.Paces.{Stands, Clocked, Pace, SameNumbers, Takes, rebased, rebase-pace}
+use our.Turns.PartTurns.{own_turn, other-turn}
+use our.Other.Strangers.{Facing, Rolls, others-there, strange}
+use our.Turns.Taking.{Takings, moves, first, takings, Caught, ours, theirs, Catch, catch-moves, catch-ready, taken-moves, taken-first}
 
 -- ---- What is known of the joined state
 

@@ -2,11 +2,11 @@
 use Rattle.machine.specs.All.{ℕ, ◌≡◌, refl, sym, ap, ◌∙◌, Bool, true, false, true≢false, ◌&&◌, List, [], ◌∷◌, Option, none, some, Transaction, Event, BlockModel, State, set_moving, set_turns, next_events, take_first, taking, waits_on, is_none, is_empty, nobody_left, Each, suc, set_rel}
 use Rattle.joined.specs.{Part}
 use Rattle.joined.proofs as our
-use our.relation.Naming.{Naming, mine, Known}
-use our.relation.Seen.{size, alone_as, Seen}
-use our.{own.Inside.Inside, other.Effect.other, turns.ClockMove.move_clock-filled}
-use our.turns.OneTurn.{Ready, as_is, clock_moved, readied, handed, hand, first_taken}
-use our.relation.Paces.{Moving, own, away, Clocked, level, resting, Stands, same, behind, Pace, SameNumbers, Takes, ready-pace, own-hand, other-hand, moving-none}
+use our.Relation.Naming.{Naming, mine, Known}
+use our.Relation.Seen.{size, alone_as, Seen}
+use our.{Own.Inside.Inside, Other.Effect.other, Turns.ClockMove.move_clock-filled}
+use our.Turns.OneTurn.{Ready, as_is, clock_moved, readied, handed, hand, first_taken}
+use our.Relation.Paces.{Moving, own, away, Clocked, level, resting, Stands, same, behind, Pace, SameNumbers, Takes, ready-pace, own-hand, other-hand, moving-none}
 use Rattle.machine.proofs.Basic.Taking.{next_events-moving}
 
 -- ---- Whom a turn takes

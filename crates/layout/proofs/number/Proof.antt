@@ -1,5 +1,5 @@
 -- `number` meets its contract: past the end `get_or` gives 0. Assumes nothing.
-use Rattle.machine.specs.All.{sym, needs, get_or-eq_default}
+use Rattle.machine.specs.All.{sym, rules, get_or-eq_default}
 use Rattle.layout.proofs.number as f
 
 returns-last : f.Tie.Need-returns-2
@@ -8,7 +8,7 @@ returns-last c =
 
 pub number-spec : {M : Type 1} → f.Statement.statement M
 number-spec = f.Tie.close (f.Tie.spec
-    (search needs)
-    (search needs)
-    (λ c. search needs)
+    (search rules)
+    (search rules)
+    (λ c. search rules)
     returns-last)

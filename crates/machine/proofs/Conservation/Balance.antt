@@ -2,12 +2,12 @@
 -- weigh together as much as the numbers 1..made. Every turn keeps it.
 use Rattle.machine.specs.All.{ℕ, zero, suc, ◌+◌, ◌*◌, ◌-◌, ◌≤◌, ◌<◌, ◌≡◌, refl, ap, ◌∙◌, true, Bool, false, cond, not, ◌&&◌, List, [], ◌∷◌, Option, none, some, arith, eqb, leb, length, take, drop, length-set, Transaction, Event, Gatherer, precedes, earlier, newborn, Interrupted, insert, those, replace_first, flat, server_at, Code, Share, facility, share_server, share_units, Block, generate, advance, terminate, takes, frees, wait_server, wait_terms, moves, assign, priority, split, counts, assemble, preempt, give_back, facts, BlockModel, block_at, wel_index, State, Logged, with_serial, with_priority, with_returning, with_stamp, with_next, set_serial, set_moving, set_ended, record_of, log, enters, move_to, fresh, to_rel, to_fel, ql_of, wel_of, line_up, to_ql, to_wel, to_wsl, must_wait, Parted, wake_ql, wake_first_wel, wake_wsl, set_use, set_content, use_time, arrival, copies, gatherers_at, in_family, waits_for, to_gatherers, comes, released, losers_to, interrupted_at, interrupt, resume, set_holder, ask_advance, question, take_units, part_for, wake_for, check_wels, ends_one, delay, effect, free_units, arrive_all, due, move_clock, next_events, take_first, take_ready, taking, answer, execute, waits_on, ws_scheme, turn, start_at, idle, start, up_to, terminates, free, times_left, of_facility, loses_to}
 use Rattle.machine.proofs as our
-use our.decoding.Proper.{Proper, ProperBlock, Names, servers, code-server, share-server}
-use our.{basic.Bools.cond_cases, runs.Kept.taking-kept, basic.Taking.next_events-moving}
-use our.lists.Cases.{check_wels-kept, wait_server-cases, wait_terms-cases, assemble-cases, ws_scheme-cases, start_of-cases, preempt-cases, give_back-cases}
-use our.runs.Shape.{Shape, shape_closed, ql-at, wel-at, wel-below, gatherers-at}
-use our.lists.Sums.{sum_on, sum-insert, sum-those, sum_replace, sum_first, sum-flat-set, sum-flat-none, sum-wake}
-use our.lists.Lines.{Whole, sum-line_up, sum-part_for}
+use our.Decoding.Proper.{Proper, ProperBlock, Names, servers, code-server, share-server}
+use our.{Basic.Bools.cond_cases, Runs.Kept.taking-kept, Basic.Taking.next_events-moving}
+use our.Lists.Cases.{check_wels-kept, wait_server-cases, wait_terms-cases, assemble-cases, ws_scheme-cases, start_of-cases, preempt-cases, give_back-cases}
+use our.Runs.Shape.{Shape, shape_closed, ql-at, wel-at, wel-below, gatherers-at}
+use our.Lists.Sums.{sum_on, sum-insert, sum-those, sum_replace, sum_first, sum-flat-set, sum-flat-none, sum-wake}
+use our.Lists.Lines.{Whole, sum-line_up, sum-part_for}
 
 module _ (m : BlockModel) (tape : List (List ℕ)) (f : ℕ → ℕ) where
   -- ---- Definition

@@ -2,11 +2,11 @@
 -- equals ended plus living, and the machine's counts are these.
 use Rattle.machine.specs.All.{ℕ, ◌+◌, ◌≤◌, ◌<◌, ◌≡◌, refl, ap, ◌∙◌, Bool, true, false, cond, ◌&&◌, List, ◌++◌, map, Option, none, some, arith, leb-true, leb-false, eqb-true, eqb-false, eq-eqb, ne_eqb, eqb, leb, length, length-append, length-map, Transaction, Interrupted, those, flat, BlockModel, State, taking, turn, start, states, placed, moving_one, places, Each, count, bit, up_to, everyone, standing, terminates, made_by, ended_by_lem, is_living, living_count, sym}
 use Rattle.machine.proofs as our
-use our.{decoding.Proper.Proper, runs.Kept.taking-kept, conservation.StartLedger.booked-start, runs.RunLaws.each-state, basic.Each.Each-map}
-use our.runs.Shape.{Shape, shape_closed, shape-turn, shape-start}
-use our.lists.Sums.{sum_on, sum-append, sum-map, sum-test, sum_cong, sum_cong-keys, sum-length, sum-count, sum-zero, up_to-ones, up_to-none, up_to-one, Each-member}
-use our.conservation.Balance.{listed, held, gone, Balanced, balanced-taking, balanced-turn, balanced-start}
-use our.conservation.Ledger.{Books, booked-taking, booked-turn}
+use our.{Decoding.Proper.Proper, Runs.Kept.taking-kept, Conservation.StartLedger.booked-start, Runs.RunLaws.each-state, Basic.Each.Each-map}
+use our.Runs.Shape.{Shape, shape_closed, shape-turn, shape-start}
+use our.Lists.Sums.{sum_on, sum-append, sum-map, sum-test, sum_cong, sum_cong-keys, sum-length, sum-count, sum-zero, up_to-ones, up_to-none, up_to-one, Each-member}
+use our.Conservation.Balance.{listed, held, gone, Balanced, balanced-taking, balanced-turn, balanced-start}
+use our.Conservation.Ledger.{Books, booked-taking, booked-turn}
 
 -- ---- Everyone
 

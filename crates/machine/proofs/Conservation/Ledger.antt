@@ -2,10 +2,10 @@
 -- records tell, at the start and after every turn.
 use Rattle.machine.specs.All.{ℕ, zero, suc, ◌+◌, ◌-◌, ◌≤◌, ◌<◌, ◌≡◌, refl, ap, ◌∙◌, Bool, true, false, cond, not, ◌&&◌, List, [], ◌∷◌, Option, none, some, arith, eqb-true, eqb-false, ne_eqb, lt-ltb, le-ltb, eqb, ltb, leb, length, drop, length-drop, get_or-set_same, get_or-set_other, Transaction, Event, Interrupted, nth, set_nth, Facts, Share, share_units, Block, generate, advance, terminate, takes, frees, wait_server, wait_terms, moves, assign, priority, split, counts, assemble, preempt, give_back, facts, BlockModel, block_at, State, Logged, set_moving, set_ended, record_of, log, enters, move_to, to_rel, to_fel, to_ql, to_wel, to_wsl, must_wait, wake_ql, wake_first_wel, wake_wsl, set_use, set_content, times_left, arrival, copies, to_gatherers, comes, released, interrupt, resume, ask_advance, question, take_units, wake_for, check_wels, ends_one, delay, effect, arrive_all, move_clock, next_events, take_first, take_ready, taking, answer, execute, turn, bit, times_of, facts_at, entered, gets_time, used_by, made_by, ended_by_lem, terminates, server_at, free, facility, share_server, ws_scheme}
 use Rattle.machine.proofs as our
-use our.decoding.Proper.{Proper, ProperBlock, Names}
-use our.{basic.Bools.cond_cases, runs.Kept.taking-kept, lists.Sums.count-cons}
-use our.lists.Cases.{wait_server-cases, check_wels-kept, wait_terms-cases, assemble-cases, ws_scheme-cases, preempt-cases, give_back-cases}
-use our.runs.Shape.{Shape, shape_closed, samples-at}
+use our.Decoding.Proper.{Proper, ProperBlock, Names}
+use our.{Basic.Bools.cond_cases, Runs.Kept.taking-kept, Lists.Sums.count-cons}
+use our.Lists.Cases.{wait_server-cases, check_wels-kept, wait_terms-cases, assemble-cases, ws_scheme-cases, preempt-cases, give_back-cases}
+use our.Runs.Shape.{Shape, shape_closed, samples-at}
 
 -- ---- Sample lists
 

@@ -1,10 +1,10 @@
 -- The living part of the report: by rising number, each a living one, each with its place.
 use Rattle.machine.specs.All.{ℕ, zero, suc, ◌+◌, ◌*◌, ◌≤◌, ◌<◌, ◌≡◌, refl, sym, ap, ◌∙◌, Bool, true, false, ◌&&◌, List, [], ◌∷◌, ◌++◌, arith, eq-eqb, eqb, length, get_or, length-append, get_or-append-add, Server, Queue, BlockModel, State, Logged, server_numbers, queue_numbers, Place, places, by_number, place_numbers, report_numbers, bit, standing, is_living, living_count, living_at, standing_at, listed_number, listed_place, LivingListed}
 use Rattle.machine.proofs as our
-use our.{decoding.Proper.servers, runs.Shape.server-length, conservation.Standing.times-standing}
-use our.lists.Sums.{sum_on, sum-count, sum-length}
-use our.conservation.Conservation.{Sound, Conserved, sound-conserved, stands-at-most-once}
-use our.lists.Sorting.{Rising, times, sum-sorted, sorted-rising}
+use our.{Decoding.Proper.servers, Runs.Shape.server-length, Conservation.Standing.times-standing}
+use our.Lists.Sums.{sum_on, sum-count, sum-length}
+use our.Conservation.Conservation.{Sound, Conserved, sound-conserved, stands-at-most-once}
+use our.Lists.Sorting.{Rising, times, sum-sorted, sorted-rising}
 
 -- ---- Lengths
 

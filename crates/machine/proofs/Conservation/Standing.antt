@@ -1,8 +1,8 @@
 -- Weights over the places of a state: those of everybody on its lists.
 use Rattle.machine.specs.All.{ℕ, ◌+◌, ◌≡◌, List, ◌++◌, map, arith, eqb, Transaction, Event, Gatherer, Interrupted, flat, State, Place, placed, moving_one, places, bit, everyone, standing}
 use Rattle.machine.proofs as our
-use our.lists.Sums.{sum_on, sum-append, sum-map, sum-count}
-use our.lists.Sorting.{times}
+use our.Lists.Sums.{sum_on, sum-append, sum-map, sum-count}
+use our.Lists.Sorting.{times}
 
 module _ (f : Place → ℕ) where
   abbrev at : ℕ → Transaction → ℕ

@@ -1,9 +1,9 @@
 -- The books at the start: each GENERATE, in block order, gets the next time of its list where one is left.
 use Rattle.machine.specs.All.{ℕ, suc, ◌+◌, ◌-◌, ◌≤◌, ◌<◌, ◌≡◌, refl, sym, ap, ◌∙◌, subst, Bool, true, false, not, ◌&&◌, List, [], ◌∷◌, arith, ne_eqb, eqb-true, lt-ltb, le-ltb, eqb, ltb, length, get_or, length-set, those, Block, facts, BlockModel, State, to_fel, times_left, arrival, start_of, start_at, idle, start, Each, bit, count, times_of, generates_of, gets_time, made_at_start, used_by, made_by, ended_by_lem, drop}
 use Rattle.machine.proofs as our
-use our.decoding.Proper.{Proper, ProperBlock, Names, generates-list}
-use our.{lists.Cases.start_of-cases, lists.Sums.count-cons}
-use our.conservation.Ledger.{Booked, Books, used-length}
+use our.Decoding.Proper.{Proper, ProperBlock, Names, generates-list}
+use our.{Lists.Cases.start_of-cases, Lists.Sums.count-cons}
+use our.Conservation.Ledger.{Booked, Books, used-length}
 
 -- what holds at every index of a list holds of each member
 pub each_of : {A : Type 0} (P : A → Type 0) (d : A) (l : List A) → ((i : ℕ) → P (get_or l i d)) → Each P l

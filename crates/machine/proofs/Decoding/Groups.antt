@@ -2,8 +2,8 @@
 -- and its own kind 17 block alone, and no target leads into it.
 use Rattle.machine.specs.All.{ℕ, zero, suc, ◌+◌, ◌-◌, ◌≤◌, ◌<◌, ◌≡◌, refl, sym, ap, Bool, true, false, cond, not, ◌&&◌, ◌||◌, true≢false, List, [], ◌∷◌, arith, eqb-true, eqb-false, eq-eqb, leb-true, leb-false, le-leb, ltb-true, ltb-false, lt-ltb, T, eqb, leb, ltb, length, get_or, max_back, bit, up_to, is_generate, Block, generate, advance, terminate, takes, frees, wait_server, wait_terms, moves, assign, priority, split, counts, assemble, preempt, give_back, facts, BlockModel, block_at, back_at, begins_group, inside_group, well_placed, all_of, joined, targets_move, well_formed, sum_names}
 use Rattle.machine.proofs as our
-use our.decoding.Proper.{Names, ProperBlock, Proper}
-use our.basic.Lists.{up_to-at}
+use our.Decoding.Proper.{Names, ProperBlock, Proper}
+use our.Basic.Lists.{up_to-at}
 
 -- ---- Tests
 

@@ -2,10 +2,10 @@
 use Rattle.machine.specs.All.{ℕ, zero, suc, ◌+◌, ◌≤◌, ◌<◌, ◌≡◌, refl, sym, ap, subst, Bool, cond, List, [], ◌∷◌, arith, leb-true, leb-false, T, leb, ltb, eqb, length, get_or, Rules, nth, Term, Block, enter, leave, BlockModel, facts, compared, Parsed, parsed, refused, Parser, times, Counts, code_of, simple_term, number, block_term, counted, mentioned, value_number, sum_terms, sum_field, bracket_field, comparison_field, mention_field, tagged_term, value_term, value_field, value_fields, code_server, storage_units, operands, block_field, model_fields, at_end, list_field, well_formed, beginning, model_of_lem, tape_of, Validation, accept, reject, with_tape, with_model, validate, Each, ◌-◌, terminate, in_value}
 use Rattle.machine.specs.Limits as Limits
 use Rattle.machine.proofs as our
-use our.decoding.Proper.{Names, Storage, CodeServer, Units, ProperBlock, Proper}
-use our.basic.Bools.{cond_cases}
-use our.basic.Each.{Each-map, each-get_or}
-use our.decoding.ParserLaws.{Refusal, Gives, Ensures, Any, then, gives, refuses, choice, weaken, repeated, asked, in_range}
+use our.Decoding.Proper.{Names, Storage, CodeServer, Units, ProperBlock, Proper}
+use our.Basic.Bools.{cond_cases}
+use our.Basic.Each.{Each-map, each-get_or}
+use our.Decoding.ParserLaws.{Refusal, Gives, Ensures, Any, then, gives, refuses, choice, weaken, repeated, asked, in_range}
 
 -- ---- Terms and values: only their refusals matter
 

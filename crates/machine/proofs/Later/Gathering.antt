@@ -3,17 +3,17 @@
 use Rattle.machine.specs.All.{ℕ, zero, suc, ◌+◌, ◌*◌, ◌-◌, ◌/◌, ◌%◌, ◌≤◌, ◌<◌, ◌≡◌, refl, sym, ap, subst, ◌∙◌, Bool, true, false, cond, ◌&&◌, true≢false, List, [], ◌∷◌, ◌++◌, map, Option, none, some, arith, mod-lt, mod-eq_of_lt, div-add-mod', ℕ_discrete, eqb-true, eqb-false, eq-eqb, ne_eqb, eqb, leb, length, get_or, replicate, get_or-set_same, get_or-set_other, Transaction, Event, Gatherer, those, replace_first, nth, set_nth, Share, share_server, share_units, Block, generate, advance, terminate, takes, frees, wait_server, wait_terms, moves, assign, priority, split, counts, assemble, preempt, give_back, facts, BlockModel, block_at, State, Logged, with_serial, set_turns, set_end, gatherers_at, in_family, waits_for, record_of, log, enters, move_to, to_rel, to_fel, to_ql, to_wel, to_wsl, must_wait, wake_ql, wake_first_wel, wake_wsl, set_use, set_content, arrival, copies, to_gatherers, comes, released, interrupt, resume, take_units, wake_for, check_wels, ends_one, delay, effect, arrive_all, move_clock, next_events, take_first, take_ready, taking, answer, execute, ws_scheme, turn, idle, start_at, start, states, Each, bit, everyone, family_by, come_by, OneGathers, suc-mul, Interrupted, server_at, free, facility, set_moving}
 use lib.Arith.{digits_mod}
 use Rattle.machine.proofs as our
-use our.lists.Chosen.{those-insert, those-one, those_else, those_replaced, upto, upto-none, upto-some}
-use our.decoding.Proper.{ProperBlock, Proper}
-use our.{runs.RunLaws.each-state, basic.Bools.cond_cases, order.Taken.taking-records}
-use our.basic.Each.{Each-map, each-passes}
-use our.lists.Cases.{check_wels-kept, wait_server-cases, wait_terms-cases, assemble-cases, ws_scheme-cases, start_of-cases, preempt-cases, give_back-cases}
-use our.runs.Shape.{Shape, gatherers-at}
-use our.order.Steps.{Step, passes, begins, back, returns, assembles, step-effect}
-use our.runs.Everybody.{Maybe, Everybody, like, taking-everybody}
-use our.runs.Placed.{Placed, placed-turn, placed-start}
-use our.conservation.Conservation.{Sound, sound-start, sound-taking, sound-turn}
-use our.later.Families.{Kindred, kindred-taking, kindred-turn, kindred-start, kindred-families}
+use our.Lists.Chosen.{those-insert, those-one, those_else, those_replaced, upto, upto-none, upto-some}
+use our.Decoding.Proper.{ProperBlock, Proper}
+use our.{Runs.RunLaws.each-state, Basic.Bools.cond_cases, Order.Taken.taking-records}
+use our.Basic.Each.{Each-map, each-passes}
+use our.Lists.Cases.{check_wels-kept, wait_server-cases, wait_terms-cases, assemble-cases, ws_scheme-cases, start_of-cases, preempt-cases, give_back-cases}
+use our.Runs.Shape.{Shape, gatherers-at}
+use our.Order.Steps.{Step, passes, begins, back, returns, assembles, step-effect}
+use our.Runs.Everybody.{Maybe, Everybody, like, taking-everybody}
+use our.Runs.Placed.{Placed, placed-turn, placed-start}
+use our.Conservation.Conservation.{Sound, sound-start, sound-taking, sound-turn}
+use our.Later.Families.{Kindred, kindred-taking, kindred-turn, kindred-start, kindred-families}
 
 -- ---- Counting up to n
 

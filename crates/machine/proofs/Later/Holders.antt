@@ -3,16 +3,16 @@
 -- turn keeps it.
 use Rattle.machine.specs.All.{ℕ, zero, suc, ◌+◌, ◌-◌, ◌≤◌, ◌<◌, ◌≡◌, refl, sym, ap, ◌∙◌, Bool, true, false, cond, not, ◌&&◌, ◌||◌, List, [], ◌∷◌, ◌++◌, map, Option, none, some, arith, ℕ_discrete, leb-true, le-leb, eqb-true, eqb-false, eq-eqb, ne_eqb, lt-ltb, ltb-true, ltb-false, ltb, leb, eqb, length, get_or, replicate, length-map, get_or-set_same, get_or-set_other, Transaction, Event, Gatherer, Interrupted, precedes, set_nth, those, Server, idle_server, server_at, free, Facts, Share, facility, storage, share_server, share_units, share_facility, share_holder, Block, generate, advance, terminate, takes, frees, wait_server, wait_terms, moves, assign, priority, split, counts, assemble, preempt, give_back, facts, BlockModel, block_at, State, Logged, with_use, set_moving, with_stamp, record_of, log, enters, move_to, to_rel, to_fel, to_ql, to_wel, to_wsl, must_wait, wake_ql, wake_first_wel, wake_wsl, set_use, set_content, arrival, copies, waits_for, to_gatherers, comes, released, of_facility, losers_to, interrupted_at, interrupt, resume, set_holder, unless, held, question, take_units, wake_for, check_wels, ends_one, delay, effect, free_units, ask_gathers, ask_holder, ask_gives_back, sample_servers, sample, arrive_all, move_clock, next_events, take_first, take_ready, taking, answer, execute, ws_scheme, turn, start_at, idle, start, states, Each, bit, up_to, count, facts_at, entered, terminates, made_by, is_living, holder_by, Held, takes_it, loser_by, preempted_by, TakenFrom, set_turns}
 use Rattle.machine.proofs as our
-use our.decoding.Proper.{Proper, ProperShare, ProperBlock, Names, Storage, servers, share-server}
-use our.{runs.RunLaws.each-state, runs.Clocks.unless_yes, nobody_able.Waiting.server_in, nobody_able.WaitsKept.sampled-alike, conservation.Ledger.ends-nobody, basic.Lists.up_to-at}
-use our.basic.Bools.{cond_cases, and-three}
-use our.basic.Each.{Each-map, each-pair, each-insert, each-those, each_replace}
-use our.lists.Cases.{wait_server-cases, check_wels-kept, wait_terms-cases, ws_scheme-cases, start_of-cases, assemble-cases, preempt-cases, give_back-cases}
-use our.runs.Shape.{Shape, server-length, server-within, facility-capacity}
-use our.lists.Sums.{count-cons, sum_on, sum-count, Each-member}
-use our.lists.Chosen.{those-insert, those-one, those_else, those_replaced, upto, upto-none, upto-some, none-numbered}
-use our.order.Losers.{Loses, loser-loses}
-use our.conservation.Conservation.{Sound, sound-taking, sound-turn, sound-start, mover-lives, interrupted_live}
+use our.Decoding.Proper.{Proper, ProperShare, ProperBlock, Names, Storage, servers, share-server}
+use our.{Runs.RunLaws.each-state, Runs.Clocks.unless_yes, NobodyAble.Waiting.server_in, NobodyAble.WaitsKept.sampled-alike, Conservation.Ledger.ends-nobody, Basic.Lists.up_to-at}
+use our.Basic.Bools.{cond_cases, and-three}
+use our.Basic.Each.{Each-map, each-pair, each-insert, each-those, each_replace}
+use our.Lists.Cases.{wait_server-cases, check_wels-kept, wait_terms-cases, ws_scheme-cases, start_of-cases, assemble-cases, preempt-cases, give_back-cases}
+use our.Runs.Shape.{Shape, server-length, server-within, facility-capacity}
+use our.Lists.Sums.{count-cons, sum_on, sum-count, Each-member}
+use our.Lists.Chosen.{those-insert, those-one, those_else, those_replaced, upto, upto-none, upto-some, none-numbered}
+use our.Order.Losers.{Loses, loser-loses}
+use our.Conservation.Conservation.{Sound, sound-taking, sound-turn, sound-start, mover-lives, interrupted_live}
 
 -- ---- Counts and tests
 

@@ -3,16 +3,16 @@
 -- kind 17 block only where the two are one.
 use Rattle.machine.specs.All.{ℕ, zero, suc, ◌+◌, ◌-◌, ◌≤◌, ◌<◌, ◌≡◌, refl, sym, ap, subst, ◌∙◌, Bool, true, false, cond, ◌&&◌, true≢false, List, [], ◌∷◌, map, Option, none, some, arith, eq-eqb, ne_eqb, ltb-true, ltb-false, lt-ltb, eqb, ltb, leb, get_or, Transaction, Event, newborn, earlier, Gatherer, Interrupted, others, flat, truth, Code, Share, share_server, share_units, Block, generate, advance, terminate, takes, frees, wait_server, wait_terms, moves, assign, priority, split, counts, assemble, preempt, give_back, facts, BlockModel, block_at, back_at, begins_group, State, Logged, with_next, with_serial, with_returning, set_moving, set_turns, set_serial, set_ended, record_of, log, enters, move_to, fresh, to_rel, to_fel, to_ql, to_wel, to_wsl, must_wait, wake_ql, wake_first_wel, wake_wsl, set_use, set_content, arrival, copies, begin_wait, to_gatherers, comes, released, interrupt, resume, stamped, take_units, wake_for, check_wels, ends_one, delay, effect, sample, arrive_all, move_clock, next_events, take_first, take_ready, taking, answer, execute, ws_scheme, turn, idle, start_at, start, states, moving_one, Each, standing, everyone, last_entry, WholeGroup, Joined, Stamped, server_at, free, facility, due}
 use Rattle.machine.proofs as our
-use our.decoding.Proper.{ProperBlock, Proper, Role, generating, taking as taking-role, neither, role, preempting}
-use our.{runs.RunLaws.each-state, basic.Bools.cond_cases, runs.Ahead.Rising}
-use our.basic.Each.{Each-map, each-insert, each-those, each_replace}
-use our.lists.Cases.{check_wels-kept, wait_server-cases, wait_terms-cases, ws_scheme-cases, start_of-cases, assemble-cases, preempt-cases, give_back-cases}
-use our.lists.Sums.{sum_on, sum-append, sum-map}
-use our.conservation.Conservation.{Sound, sound-start, sound-taking, sound-turn, stands-at-most-once}
-use our.order.Taken.{has, has-own, standing-sum}
-use our.decoding.Groups.{Wait8, first_of, back-within, group-waits, apart, begins, begins-none, target-outside}
-use our.runs.Ahead.{Ahead, rising-insert, rising-those, rising-without}
-use our.runs.Everybody.{Maybe, Everybody, Unmoved, like as everybody-like, everybody-map, everybody-each, to_rel-everybody, to_fel-everybody, to_ql-everybody, to_wel-everybody, to_wsl-everybody, move_to-everybody, wake_for-everybody, wake_first_wel-everybody, wake_wsl-everybody, idle-everybody, to_gatherers-everybody, comes-everybody, released-everybody, waiter-everybody, interrupt-everybody}
+use our.Decoding.Proper.{ProperBlock, Proper, Role, generating, taking as taking-role, neither, role, preempting}
+use our.{Runs.RunLaws.each-state, Basic.Bools.cond_cases, Runs.Ahead.Rising}
+use our.Basic.Each.{Each-map, each-insert, each-those, each_replace}
+use our.Lists.Cases.{check_wels-kept, wait_server-cases, wait_terms-cases, ws_scheme-cases, start_of-cases, assemble-cases, preempt-cases, give_back-cases}
+use our.Lists.Sums.{sum_on, sum-append, sum-map}
+use our.Conservation.Conservation.{Sound, sound-start, sound-taking, sound-turn, stands-at-most-once}
+use our.Order.Taken.{has, has-own, standing-sum}
+use our.Decoding.Groups.{Wait8, first_of, back-within, group-waits, apart, begins, begins-none, target-outside}
+use our.Runs.Ahead.{Ahead, rising-insert, rising-those, rising-without}
+use our.Runs.Everybody.{Maybe, Everybody, Unmoved, like as everybody-like, everybody-map, everybody-each, to_rel-everybody, to_fel-everybody, to_ql-everybody, to_wel-everybody, to_wsl-everybody, move_to-everybody, wake_for-everybody, wake_first_wel-everybody, wake_wsl-everybody, idle-everybody, to_gatherers-everybody, comes-everybody, released-everybody, waiter-everybody, interrupt-everybody}
 
 -- ---- Last entries
 

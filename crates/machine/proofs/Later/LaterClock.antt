@@ -2,9 +2,9 @@
 -- questions only 22 reads the clock limit.
 use Rattle.machine.specs.All.{ℕ, zero, suc, ◌+◌, ◌≤◌, ◌≡◌, refl, ◌∙◌, Bool, true, false, ◌&&◌, List, [], ◌∷◌, Option, none, some, arith, leb-true, le-leb, leb, eqb, max_living, Rules, Transaction, Gatherer, Interrupted, server_at, Share, facility, storage, Block, generate, advance, terminate, takes, frees, wait_server, wait_terms, moves, assign, priority, split, counts, assemble, preempt, give_back, BlockModel, State, set_end, wake_wsl, unless, living, ask_time, ask_generate, ask_advance, ask_holder, held, question, ask_gathers, ask_resume, ask_gives_back, answer, execute, ws_scheme, turn, run, sym, ap, not, ◌||◌, share_server, share_units, block_at, times_left, waits_for, interrupted_at}
 use Rattle.machine.proofs as our
-use our.runs.RunLaws.{Before, taken, own, closing}
-use our.{lists.Cases.ws_scheme-cases, decoding.WiderParsing.with_rules, later.SameTurns.taken_from}
-use our.later.SameTurns.{AnsweredAlike, turn-same, run-same}
+use our.Runs.RunLaws.{Before, taken, own, closing}
+use our.{Lists.Cases.ws_scheme-cases, Decoding.WiderParsing.with_rules, Later.SameTurns.taken_from}
+use our.Later.SameTurns.{AnsweredAlike, turn-same, run-same}
 
 module _ (new : Rules) (m : BlockModel) (higher : m.rules.max_clock ≤ new.max_clock) (holders : m.rules.holders ≡ new.holders) where
   abbrev m' : BlockModel

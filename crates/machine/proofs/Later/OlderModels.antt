@@ -1,10 +1,10 @@
 -- More kinds and editions leave the run of every model that was accepted: no question and no effect reads how many there are.
 use Rattle.machine.specs.All.{ℕ, ◌≡◌, refl, ap, subst, ◌∙◌, List, [], ◌∷◌, Option, none, some, arith, Rules, item6, item11, document02, Transaction, Gatherer, Interrupted, facility, storage, Block, generate, advance, terminate, takes, frees, wait_server, wait_terms, moves, assign, priority, split, counts, assemble, preempt, give_back, BlockModel, State, ask_generate, ask_advance, ask_holder, held, question, ask_gathers, ask_resume, ask_gives_back, run, Validation, accept, reject, validate, accepted_run, refused_run, outcome_of, outcome, counting, KeepsModels, block_at, times_left, waits_for, interrupted_at}
 use Rattle.machine.proofs as our
-use our.decoding.ProperFrom.{rules-from, refusal-from}
-use our.decoding.WiderParsing.{with_rules}
-use our.later.SameTurns.{AnsweredAlike, taken_from, turn-same, accepted-same, run-same}
-use our.later.OlderTapes.{Accepted, validated}
+use our.Decoding.ProperFrom.{rules-from, refusal-from}
+use our.Decoding.WiderParsing.{with_rules}
+use our.Later.SameTurns.{AnsweredAlike, taken_from, turn-same, accepted-same, run-same}
+use our.Later.OlderTapes.{Accepted, validated}
 
 module _ (kinds editions : ℕ) (m : BlockModel) where
   abbrev new : Rules

@@ -1,9 +1,9 @@
 -- "Runs of older tapes that did not end 22 keep their bytes", from bytes, and every trace that was taken is taken alike.
 use Rattle.machine.specs.All.{ℕ, ◌≡◌, refl, sym, ap, subst, ◌∙◌, Bool, true, false, cond, List, arith, leb, ltb, length, work_numbers, report_room, Rules, document01, item1, document02, Cursor, Parsed, parsed, refused, BlockModel, Record, Reading, taken, refusal, no_more, record_fields, reading, read_record, run, beginning, model_of_lem, Validation, accept, reject, with_tape, with_model, validate, accepted_run, refused_run, outcome_of, outcome, Wider, AllowsNoLess, SameBytes, KeepsRuns, KeepsTraces}
 use Rattle.machine.proofs as our
-use our.decoding.ProperFrom.{rules-from, refusal-from}
-use our.decoding.WiderParsing.{Kept, with_rules, Follows, tape_widens, record_widens, model-follows, own-rules}
-use our.{later.SameTurns.accepted-same, later.LaterClock.Later-same}
+use our.Decoding.ProperFrom.{rules-from, refusal-from}
+use our.Decoding.WiderParsing.{Kept, with_rules, Follows, tape_widens, record_widens, model-follows, own-rules}
+use our.{Later.SameTurns.accepted-same, Later.LaterClock.Later-same}
 
 -- ---- Validation
 

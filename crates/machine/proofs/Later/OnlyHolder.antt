@@ -2,15 +2,15 @@
 -- tell so, 27 and 28 are never answered, and so the run with them is the run without them.
 use Rattle.machine.specs.All.{ℕ, zero, suc, ◌≡◌, refl, sym, ap, subst, ◌∙◌, Bool, true, false, cond, not, ◌&&◌, ◌||◌, List, [], ◌∷◌, Option, none, some, arith, eq-eqb, ne_eqb, leb, eqb, T, work_numbers, report_room, Rules, document01, item1, item6, in_force, Parsed, parsed, refused, Transaction, Gatherer, Interrupted, server_at, facility, storage, share_server, share_units, share_facility, Block, generate, advance, terminate, takes, frees, wait_server, wait_terms, moves, assign, priority, split, counts, assemble, preempt, give_back, facts, BlockModel, block_at, State, Logged, set_moving, record_of, log, enters, move_to, wake_ql, wake_first_wel, wake_wsl, set_use, waits_for, comes, released, to_rel, unless, ask_generate, ask_advance, ask_holder, held, question, wake_for, ends_one, effect, take_units, ask_gathers, gathers, ask_resume, ask_gives_back, answer, execute, ws_scheme, turn, run, list_field, beginning, model_of_lem, tape_of, Validation, accept, reject, with_tape, with_model, validate, accepted_run, outcome_of, outcome, bit, terminates, SameBytes, holder_by, loser_by, refused_run, up_to, asking, held_by, by_holder, free_handed, own_only, OwnOnly, KeepsOwnRuns, times_left, begin_wait, must_wait, interrupted_at, gathering}
 use Rattle.machine.proofs as our
-use our.decoding.Proper.{Proper, ProperBlock, Names}
-use our.decoding.ProperFrom.{proper-from, rules-from, refusal-from}
-use our.lists.Cases.{check_wels-kept, ws_scheme-cases}
-use our.{runs.Kept.taking-kept, lists.Sums.up_to_cong, order.Taken.taking-records, later.OlderTapes.older-runs, later.OlderTapes.older_year, later.OlderTapes.same_runs, later.OlderModels.older_models, basic.Bools.cond_cases, later.Holders.Accounts}
-use our.runs.Shape.{Shape, shape_closed}
-use our.order.Steps.{Step, passes, begins, back, returns, assembles, step-effect}
-use our.decoding.WiderParsing.{with_rules, under_rules, model-read, own-rules}
-use our.later.SameTurns.{AnsweredAlike, taken_from, turn-same, accepted-same, run-same}
-use our.later.Holders.{Holding, holding-taking, accounts-start, accounts-turn}
+use our.Decoding.Proper.{Proper, ProperBlock, Names}
+use our.Decoding.ProperFrom.{proper-from, rules-from, refusal-from}
+use our.Lists.Cases.{check_wels-kept, ws_scheme-cases}
+use our.{Runs.Kept.taking-kept, Lists.Sums.up_to_cong, Order.Taken.taking-records, Later.OlderTapes.older-runs, Later.OlderTapes.older_year, Later.OlderTapes.same_runs, Later.OlderModels.older_models, Basic.Bools.cond_cases, Later.Holders.Accounts}
+use our.Runs.Shape.{Shape, shape_closed}
+use our.Order.Steps.{Step, passes, begins, back, returns, assembles, step-effect}
+use our.Decoding.WiderParsing.{with_rules, under_rules, model-read, own-rules}
+use our.Later.SameTurns.{AnsweredAlike, taken_from, turn-same, accepted-same, run-same}
+use our.Later.Holders.{Holding, holding-taking, accounts-start, accounts-turn}
 
 -- ---- Tests
 

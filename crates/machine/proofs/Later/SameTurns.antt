@@ -2,8 +2,8 @@
 -- alike; a run whose turns are the same goes through the same states, and its report is the same.
 use Rattle.machine.specs.All.{ℕ, zero, suc, ◌≡◌, refl, ap, List, [], ◌∷◌, Option, none, some, eqb-true, eqb-false, eqb, Rules, Transaction, Event, Interrupted, Server, Queue, View, Share, facility, storage, share_server, Block, generate, advance, terminate, takes, frees, wait_server, wait_terms, moves, assign, priority, split, counts, assemble, preempt, give_back, BlockModel, block_at, begins_group, State, Logged, set_turns, set_end, enters, go_on_lem, wake_ql, losers_to, interrupted_at, must_wait, begin_wait, question, fits, first_of_one, from_front, queue_remove, part_for, wake_for, check_wels, effect, take_units, preempting, gives_back, taking, answer, execute, waits_on, ws_scheme, turn, end_before_lem, idle, start, run_from, run, steps, records_at, server_numbers, queue_numbers, report_numbers, report_bytes_lem, accepted_run, ◌-◌, sym, ◌∙◌, Bool, true, false, share_units, set_moving, ql_of, units_of_lem, free_units}
 use Rattle.machine.proofs as our
-use our.runs.RunLaws.{run_on, run-off, Taken, Before, before, Taken-of}
-use our.decoding.WiderParsing.{with_rules}
+use our.Runs.RunLaws.{run_on, run-off, Taken, Before, before, Taken-of}
+use our.Decoding.WiderParsing.{with_rules}
 
 -- the state in which the block of a turn is executed
 abbrev pub taken_from : State → State

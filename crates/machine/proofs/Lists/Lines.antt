@@ -2,10 +2,10 @@
 -- only where it stands depends on the edition. Under edition 1 a line stays in order.
 use Rattle.machine.specs.All.{ℕ, ◌+◌, ◌-◌, ◌≡◌, refl, Bool, List, [], ◌∷◌, ◌++◌, reverse, reverse-cons, arith, eq-eqb, eqb, ltb, leb, Transaction, precedes, insert, any_of, View, Share, facility, storage, above_one, BlockModel, from_back, line_up, Parted, first_of, units_of_lem, first_of_one, from_front, queue_remove, part_for, Each}
 use Rattle.machine.proofs as our
-use our.basic.Bools.{cond_cases}
-use our.basic.Each.{each-insert, each-those}
-use our.lists.Sums.{sum_on, sum-append, sum-insert, sum-those, sum_first}
-use our.lists.Sorted.{Sorted, sorted_in}
+use our.Basic.Bools.{cond_cases}
+use our.Basic.Each.{each-insert, each-those}
+use our.Lists.Sums.{sum_on, sum-append, sum-insert, sum-those, sum_first}
+use our.Lists.Sorted.{Sorted, sorted_in}
 
 -- ---- From the back
 

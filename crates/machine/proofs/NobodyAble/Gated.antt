@@ -2,11 +2,11 @@
 -- of REL. A passing WAITIF wakes the next, so that a chain of returners empties a WEL whose code is not true.
 use Rattle.machine.specs.All.{ℕ, zero, suc, ◌*◌, ◌-◌, ◌≤◌, ◌<◌, ◌≡◌, refl, ◌∙◌, true, List, [], ◌∷◌, arith, ℕ_discrete, length, get_or, set, take, drop, length-set, get_or-set_same, get_or-set_other, Transaction, precedes, set_nth, Server, server_at, Code, U, NU, E, NE, F, NF, status, code_index, BlockModel, block_at, wel_index, facts, State, wel_of, line_up, wake, wake_first_wel, check_wel, check_wels, Each, sym, ap, idle_server, with_returning}
 use Rattle.machine.proofs as our
-use our.{decoding.Proper.servers, lists.Cases.check_wel-cases, basic.Each.each-drop}
-use our.lists.Sorted.{Sorted, some_inserted, at_set, sorted-drop}
-use our.lists.Lines.{each-line_up, sorted-line_up}
-use our.nobody_able.Waiting.{AtWel, server_in, WelWaits, code_true, nobody_waits, one_ready, Gated}
-use our.nobody_able.Ready.{Grows, grows-wake, wel-more, wel_else}
+use our.{Decoding.Proper.servers, Lists.Cases.check_wel-cases, Basic.Each.each-drop}
+use our.Lists.Sorted.{Sorted, some_inserted, at_set, sorted-drop}
+use our.Lists.Lines.{each-line_up, sorted-line_up}
+use our.NobodyAble.Waiting.{AtWel, server_in, WelWaits, code_true, nobody_waits, one_ready, Gated}
+use our.NobodyAble.Ready.{Grows, grows-wake, wel-more, wel_else}
 
 -- ---- Each server and code has a WEL of its own
 

@@ -2,11 +2,11 @@
 -- waiters able to go is zero.
 use Rattle.machine.specs.All.{ℕ, ◌≤◌, ◌≡◌, refl, ap, ap₂, subst, Bool, false, not, true≢false, List, [], ◌∷◌, none, arith, length, those, server_at, Code, U, NU, E, NE, F, NF, status, BlockModel, wel_index, State, ql_of, wel_of, fits, waits_on, states, count, Each, able_on_ql, able_on_wel, able_on_wels, able_to_go, sym, ◌∙◌}
 use Rattle.machine.proofs as our
-use our.decoding.Proper.{Proper, servers}
-use our.{runs.RunLaws.each-state, basic.Bools.cond_cases, basic.Each.Each-map, lists.Sums.up_to-zero}
-use our.runs.Shape.{Shape, server-length, shape-turn, shape-start}
-use our.nobody_able.Waiting.{server_in, QlWaits, nobody_fits, next_ready, WelWaits, code_true, nobody_waits, one_ready, WaitsOver, Waits, ready_of, Settled}
-use our.nobody_able.WaitsKept.{waits_kept, Waits-start}
+use our.Decoding.Proper.{Proper, servers}
+use our.{Runs.RunLaws.each-state, Basic.Bools.cond_cases, Basic.Each.Each-map, Lists.Sums.up_to-zero}
+use our.Runs.Shape.{Shape, server-length, shape-turn, shape-start}
+use our.NobodyAble.Waiting.{server_in, QlWaits, nobody_fits, next_ready, WelWaits, code_true, nobody_waits, one_ready, WaitsOver, Waits, ready_of, Settled}
+use our.NobodyAble.WaitsKept.{waits_kept, Waits-start}
 
 -- ---- Counts that are zero
 

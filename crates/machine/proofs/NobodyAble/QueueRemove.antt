@@ -3,8 +3,8 @@
 -- (i).
 use Rattle.machine.specs.All.{ℕ, suc, ◌-◌, ◌≤◌, ◌≡◌, refl, sym, ap, ◌∙◌, Bool, true, false, cond, not, List, [], ◌∷◌, arith, eq-eqb, eqb-true, eqb-false, ltb-true, ltb-false, le-leb, lt-leb, eqb, ltb, leb, get_or, Transaction, those, any_of, View, server_at, free, facility, storage, share_server, share_units, Block, generate, advance, terminate, takes, frees, wait_server, wait_terms, moves, assign, priority, split, counts, assemble, preempt, give_back, facts, above_one, BlockModel, block_at, Parted, nobody, goes, stays, first_of, part_by, units_of_lem, fits, first_of_one, from_front, queue_remove, part_for, Each, others}
 use Rattle.machine.proofs as our
-use our.decoding.Proper.{Proper, ProperBlock, Role, generating, taking, preempting, neither, role}
-use our.{basic.Each.Each-map, basic.Lists.none-at, nobody_able.Waiting.AtServer}
+use our.Decoding.Proper.{Proper, ProperBlock, Role, generating, taking, preempting, neither, role}
+use our.{Basic.Each.Each-map, Basic.Lists.none-at, NobodyAble.Waiting.AtServer}
 
 -- ---- Definition
 

@@ -1,13 +1,13 @@
 -- REL and the QLs, block by block: how SEIZE, RELEASE, ENTER and LEAVE keep `Queued`, for the one that moves, t, in front of REL.
 use Rattle.machine.specs.All.{ℕ, ◌+◌, ◌-◌, ◌≤◌, ◌≡◌, refl, sym, ◌∙◌, Bool, false, not, List, [], ◌∷◌, arith, ℕ_discrete, leb, length, take, drop, get_or-set_same, get_or-set_other, set-get_or, leb-false, lt-leb, not-true, Transaction, precedes, others, nth, set_nth, Server, free, facility, storage, share_server, share_units, Block, facts, BlockModel, with_use, line_up, wake, Parted, first_of, part_by, units_of_lem, Each, ap, true, idle_server, block_at, with_returning}
 use Rattle.machine.proofs as our
-use our.decoding.Proper.{Proper, ProperBlock, servers, Role, generating, taking, preempting, neither, role}
-use our.basic.Each.{Each-map, each-passes}
-use our.nobody_able.Waiting.{Next}
-use our.lists.Sorted.{Sorted, some_inserted, at_set, sorted-drop, sorted-those}
-use our.lists.Lines.{each-line_up, sorted-line_up, Both}
-use our.nobody_able.Waiting.{server_of, AtServer, server_in, QlWaits, nobody_fits, next_ready, Queued}
-use our.nobody_able.Ready.{Grows, grows-not, grows-wake, ql-more, ql_else}
+use our.Decoding.Proper.{Proper, ProperBlock, servers, Role, generating, taking, preempting, neither, role}
+use our.Basic.Each.{Each-map, each-passes}
+use our.NobodyAble.Waiting.{Next}
+use our.Lists.Sorted.{Sorted, some_inserted, at_set, sorted-drop, sorted-those}
+use our.Lists.Lines.{each-line_up, sorted-line_up, Both}
+use our.NobodyAble.Waiting.{server_of, AtServer, server_in, QlWaits, nobody_fits, next_ready, Queued}
+use our.NobodyAble.Ready.{Grows, grows-not, grows-wake, ql-more, ql_else}
 
 -- ---- The units of a SEIZE or PREEMPT
 

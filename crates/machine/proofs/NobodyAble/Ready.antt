@@ -2,9 +2,9 @@
 -- no longer needed where it stood.
 use Rattle.machine.specs.All.{ℕ, inl, inr, List, [], ◌∷◌, Transaction, precedes, insert, Server, Code, BlockModel, wake, true, with_returning}
 use Rattle.machine.proofs as our
-use our.lists.Sorted.{Some, Sorted, some-insert, sorted_in}
-use our.nobody_able.Waiting.{AtServer, AtWel, QlWaits, nobody_fits, next_ready, WelWaits, code_true, nobody_waits, one_ready, Queued, WaitsOver}
-use our.nobody_able.Waiting.{Gated}
+use our.Lists.Sorted.{Some, Sorted, some-insert, sorted_in}
+use our.NobodyAble.Waiting.{AtServer, AtWel, QlWaits, nobody_fits, next_ready, WelWaits, code_true, nobody_waits, one_ready, Queued, WaitsOver}
+use our.NobodyAble.Waiting.{Gated}
 
 -- ---- REL grows
 

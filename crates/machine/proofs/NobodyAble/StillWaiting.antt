@@ -3,11 +3,11 @@
 -- to wait in it was judged by the same view.
 use Rattle.machine.specs.All.{ℕ, zero, suc, ◌-◌, ◌≡◌, refl, sym, ap, ◌∙◌, subst, Bool, true, false, not, List, [], ◌∷◌, map, Option, none, some, not-true, not-false, leb, get_or, set, get_or-set_other, Transaction, Event, those, others, Server, Queue, idle_server, empty_queue, Term, Relation, compare, truth, Share, facility, share_server, share_units, Block, generate, advance, terminate, takes, frees, wait_server, wait_terms, moves, assign, priority, split, counts, assemble, preempt, give_back, facts, BlockModel, block_at, State, set_clock, set_view, set_turns, log, enters, move_to, to_rel, to_fel, to_ql, to_wel, to_wsl, must_wait, wake, wake_ql, wake_first_wel, wake_wsl, set_use, set_content, arrival, copies, to_gatherers, comes, released, interrupt, resume, take_units, wake_for, check_wels, ends_one, delay, effect, free_units, sample_queue, sample, arrive_all, move_clock, next_events, take_first, take_ready, taking, answer, execute, holds, waits_on, ws_scheme, turn, start, Each, Thing, the_clock, entry, queue, server, Watches, Spares, ap₂, server_at, free, with_serial, set_wsl, set_rel, set_moving, question, due}
 use Rattle.machine.proofs as our
-use our.{basic.Bools.cond_cases, basic.Taking.arrive_all-clock}
-use our.basic.Each.{Each-map, each-insert, each-passes}
-use our.lists.Cases.{check_wels-kept, wait_server-cases, wait_terms-cases, assemble-cases, preempt-cases, give_back-cases, ws_scheme-cases}
-use our.nobody_able.WaitsKept.{sampled-alike, wsl-start}
-use our.nobody_able.Named.{Agrees, agrees-same, waits-same}
+use our.{Basic.Bools.cond_cases, Basic.Taking.arrive_all-clock}
+use our.Basic.Each.{Each-map, each-insert, each-passes}
+use our.Lists.Cases.{check_wels-kept, wait_server-cases, wait_terms-cases, assemble-cases, preempt-cases, give_back-cases, ws_scheme-cases}
+use our.NobodyAble.WaitsKept.{sampled-alike, wsl-start}
+use our.NobodyAble.Named.{Agrees, agrees-same, waits-same}
 
 -- ---- After a turn all that wait on a comparison wait on one that holds
 

@@ -1,14 +1,14 @@
 -- What is known of those who wait is kept by every block: one lemma for each kind, for the one that moves in front of REL.
 use Rattle.machine.specs.All.{ℕ, zero, suc, ◌-◌, ◌≤◌, ◌≡◌, refl, ap, ◌∙◌, Bool, true, false, List, [], ◌∷◌, arith, leb, length, get_or-set_same, eq-eqb, Transaction, server_at, free, Code, status, Share, facility, storage, share_server, share_units, Block, generate, advance, terminate, takes, frees, wait_server, wait_terms, moves, assign, priority, split, counts, assemble, preempt, give_back, facts, BlockModel, block_at, wel_index, State, with_use, ql_of, log, enters, move_to, to_rel, to_fel, to_ql, to_wel, to_wsl, must_wait, wake_ql, wake_first_wel, set_use, set_content, arrival, copies, to_gatherers, comes, released, interrupt, resume, units_of_lem, fits, part_for, take_units, check_wels, ends_one, delay, effect, free_units, wake_for, sym, take, with_serial, wel_of, Parted}
 use Rattle.machine.proofs as our
-use our.decoding.Proper.{Proper, ProperBlock, servers, code-server, share-server, ProperShare, Names}
-use our.{basic.Bools.cond_cases, order.Losers.loser-loses, lists.Lines.both-part_for}
-use our.lists.Cases.{check_wels-kept, wait_server-cases, wait_terms-cases, assemble-cases, preempt-cases, give_back-cases}
-use our.runs.Shape.{Shape, server-length, facility-capacity}
-use our.nobody_able.Waiting.{server_of, AtServer, AtWel, server_in, Queued, Gated, WaitsOver}
-use our.nobody_able.Ready.{grows-not, grows-insert, grows-wake, queued-more, waits-more, ql_else, wel_else}
-use our.nobody_able.Queued.{taken-queued, waits-queued, Kept, parted-queued, first-kept, fitting-kept, handed-queued, in_use-waits}
-use our.nobody_able.Gated.{Open, WelAt, checks-gated, others_wait, waits-gated, passes-gated}
+use our.Decoding.Proper.{Proper, ProperBlock, servers, code-server, share-server, ProperShare, Names}
+use our.{Basic.Bools.cond_cases, Order.Losers.loser-loses, Lists.Lines.both-part_for}
+use our.Lists.Cases.{check_wels-kept, wait_server-cases, wait_terms-cases, assemble-cases, preempt-cases, give_back-cases}
+use our.Runs.Shape.{Shape, server-length, facility-capacity}
+use our.NobodyAble.Waiting.{server_of, AtServer, AtWel, server_in, Queued, Gated, WaitsOver}
+use our.NobodyAble.Ready.{grows-not, grows-insert, grows-wake, queued-more, waits-more, ql_else, wel_else}
+use our.NobodyAble.Queued.{taken-queued, waits-queued, Kept, parted-queued, first-kept, fitting-kept, handed-queued, in_use-waits}
+use our.NobodyAble.Gated.{Open, WelAt, checks-gated, others_wait, waits-gated, passes-gated}
 
 -- ---- After a block
 

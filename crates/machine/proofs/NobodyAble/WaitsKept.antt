@@ -1,15 +1,15 @@
 -- What is known of those who wait is kept by every turn, and holds at the start.
 use Rattle.machine.specs.All.{ℕ, zero, suc, ◌*◌, ◌-◌, ◌≡◌, refl, ◌∙◌, Bool, not, inl, inr, List, [], ◌∷◌, Option, none, some, arith, get_or, replicate, not-true, not-false, Transaction, Event, precedes, those, others, Server, Code, U, NU, E, NE, F, NF, status, Block, BlockModel, block_at, wel_index, State, wake, to_rel, to_fel, arrival, wake_wsl, effect, sample_servers, sample, arrive_all, move_clock, next_events, take_first, take_ready, taking, answer, execute, waits_on, ws_scheme, turn, start_at, idle, start, Each, sym, true, idle_server, set_turns, set_moving, due}
 use Rattle.machine.proofs as our
-use our.decoding.Proper.{Proper, servers}
-use our.basic.Each.{Each-map, each-passes}
-use our.{runs.Kept.taking-kept, nobody_able.Waiting.WaitsOver, basic.Taking.next_events-moving}
-use our.lists.Cases.{ws_scheme-cases, start_of-cases}
-use our.runs.Shape.{Shape, shape_closed}
-use our.lists.Sorted.{Some, Sorted}
-use our.nobody_able.Waiting.{server_in, AtServer, AtWel, QlWaits, nobody_fits, next_ready, WelWaits, code_true, nobody_waits, one_ready, Waits, ready_of, Settled}
-use our.nobody_able.Ready.{Grows, grows-wake, waits-more}
-use our.nobody_able.WaitsBlocks.{Walked, to_rel-walked, effect-walked}
+use our.Decoding.Proper.{Proper, servers}
+use our.Basic.Each.{Each-map, each-passes}
+use our.{Runs.Kept.taking-kept, NobodyAble.Waiting.WaitsOver, Basic.Taking.next_events-moving}
+use our.Lists.Cases.{ws_scheme-cases, start_of-cases}
+use our.Runs.Shape.{Shape, shape_closed}
+use our.Lists.Sorted.{Some, Sorted}
+use our.NobodyAble.Waiting.{server_in, AtServer, AtWel, QlWaits, nobody_fits, next_ready, WelWaits, code_true, nobody_waits, one_ready, Waits, ready_of, Settled}
+use our.NobodyAble.Ready.{Grows, grows-wake, waits-more}
+use our.NobodyAble.WaitsBlocks.{Walked, to_rel-walked, effect-walked}
 
 -- ---- Statistics change nobody's wait
 

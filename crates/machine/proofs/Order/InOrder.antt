@@ -1,11 +1,11 @@
 -- Claim 4 of demand 3, of every state of a run under edition 1: of two equal waits the one that began later ended only after the other.
 use Rattle.machine.specs.All.{ℕ, ◌≡◌, List, reverse, arith, BlockModel, State, turn, states, set_end, Each, InOrder}
 use Rattle.machine.proofs as our
-use our.{decoding.Proper.Proper, runs.RunLaws.each-state, basic.Each.Each-map}
-use our.nobody_able.Waiting.{Waits, Settled}
-use our.nobody_able.WaitsKept.{waits_kept, Waits-start}
-use our.conservation.Conservation.{Sound, sound-start, sound-turn, stands-at-most-once}
-use our.order.OrderKept.{Ordered, ordered-turn, ordered-start, ordered_end}
+use our.{Decoding.Proper.Proper, Runs.RunLaws.each-state, Basic.Each.Each-map}
+use our.NobodyAble.Waiting.{Waits, Settled}
+use our.NobodyAble.WaitsKept.{waits_kept, Waits-start}
+use our.Conservation.Conservation.{Sound, sound-start, sound-turn, stands-at-most-once}
+use our.Order.OrderKept.{Ordered, ordered-turn, ordered-start, ordered_end}
 
 -- all that the order of waits rests on
 record Held (m : BlockModel) (tape : List (List ℕ)) (s : State) : Type 0 where

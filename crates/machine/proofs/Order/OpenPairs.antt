@@ -1,8 +1,8 @@
 -- Pairs of open waits, the later one first, and one wait weighed alone.
 use Rattle.machine.specs.All.{ℕ, ◌≤◌, ◌<◌, ◌≡◌, refl, sym, ap, inl, inr, Bool, true, false, ◌&&◌, List, [], ◌∷◌, map, arith, eqb, eqb-true, eq-eqb, bit}
 use Rattle.machine.proofs as our
-use our.order.Records.{Key, Member, Behind}
-use our.{lists.Sums.sum_on, order.Weights.Wait, order.OpenWaits.Falling}
+use our.Order.Records.{Key, Member, Behind}
+use our.{Lists.Sums.sum_on, Order.Weights.Wait, Order.OpenWaits.Falling}
 
 -- ---- Two open waits, the later one first
 

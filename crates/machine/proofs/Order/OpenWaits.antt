@@ -1,10 +1,10 @@
 -- The open waits of the records are the waits of those who wait, and serials rise with the beginning of waits.
 use Rattle.machine.specs.All.{ℕ, suc, ◌+◌, ◌≤◌, ◌<◌, ◌≡◌, refl, sym, ap, subst, ◌∙◌, Bool, true, false, cond, not, List, [], ◌∷◌, map, arith, eqb, eq-eqb, Transaction, those, others, flat, facts, BlockModel, block_at, State, Logged, moving_one, with_serial, record_of, log, enters, fresh, bit}
 use Rattle.machine.proofs as our
-use our.{basic.Bools.cond_cases, lists.SumFacts.sum_agree}
-use our.order.Records.{opens, without}
-use our.lists.Sums.{sum_on, sum-test}
-use our.order.Weights.{Wait, wait_of, weight, marked, waiting, Quiet}
+use our.{Basic.Bools.cond_cases, Lists.SumFacts.sum_agree}
+use our.Order.Records.{opens, without}
+use our.Lists.Sums.{sum_on, sum-test}
+use our.Order.Weights.{Wait, wait_of, weight, marked, waiting, Quiet}
 
 -- ---- Definition
 

@@ -1,16 +1,16 @@
 -- Edition 1: the order of waits is kept by every turn.
 use Rattle.machine.specs.All.{ℕ, zero, suc, ◌+◌, ◌*◌, ◌≤◌, ◌≡◌, refl, sym, ap, subst, Bool, true, cond, true≢false, List, [], ◌∷◌, reverse, Option, none, some, arith, length, Transaction, Block, BlockModel, block_at, State, Logged, set_moving, set_turns, set_end, with_serial, record_of, log, enters, to_fel, wake_wsl, arrival, fresh, taking, answer, execute, turn, start_at, idle, start, moving_one, InOrder, ◌∙◌, question}
 use Rattle.machine.proofs as our
-use our.{decoding.Proper.Proper, basic.Bools.cond_cases, runs.Kept.taking-kept, order.Rivals.ends_in-order}
-use our.lists.Cases.{ws_scheme-cases, start_of-cases}
-use our.runs.Shape.{Shape, shape_closed}
-use our.nobody_able.Waiting.{Waits, Settled}
-use our.order.Records.{opens, order-more}
-use our.lists.Sums.{sum_on, sum-flat-none}
-use our.order.Weights.{Wait, wait_of, weight, marked, waiting, Unmarked, quiet-wake_wsl}
-use our.order.Steps.{Step, passes, begins, back, returns, assembles, step-effect}
-use our.order.OpenWaits.{ForUnits, Linked, LinkedIn, linked_as, linked-quiet, linked-passes, linked-begins}
-use our.order.Taken.{Once, InHand, Handed, nobody, hand, handed, taking-records}
+use our.{Decoding.Proper.Proper, Basic.Bools.cond_cases, Runs.Kept.taking-kept, Order.Rivals.ends_in-order}
+use our.Lists.Cases.{ws_scheme-cases, start_of-cases}
+use our.Runs.Shape.{Shape, shape_closed}
+use our.NobodyAble.Waiting.{Waits, Settled}
+use our.Order.Records.{opens, order-more}
+use our.Lists.Sums.{sum_on, sum-flat-none}
+use our.Order.Weights.{Wait, wait_of, weight, marked, waiting, Unmarked, quiet-wake_wsl}
+use our.Order.Steps.{Step, passes, begins, back, returns, assembles, step-effect}
+use our.Order.OpenWaits.{ForUnits, Linked, LinkedIn, linked_as, linked-quiet, linked-passes, linked-begins}
+use our.Order.Taken.{Once, InHand, Handed, nobody, hand, handed, taking-records}
 
 -- ---- Definition
 

@@ -2,16 +2,16 @@
 -- the QL of a server that it fits, with nobody ready whom it does not precede.
 use Rattle.machine.specs.All.{ℕ, zero, suc, ◌+◌, ◌-◌, ◌≤◌, ◌<◌, ◌≡◌, refl, sym, ap, subst, ◌∙◌, ◌⊎◌, inl, inr, Bool, true, false, cond, true≢false, List, [], ◌∷◌, none, arith, eqb, ltb, length, get_or, ltb-true, ltb-false, eq-eqb, ne_eqb, Transaction, precedes, flat, View, Block, facts, BlockModel, block_at, State, units_of_lem, holds, waits_on, Each, bit, preempt_names, ap₂, leb, free, terminate}
 use Rattle.machine.proofs as our
-use our.decoding.Proper.{servers, Role, generating, taking, preempting, neither, role}
-use our.{basic.Bools.cond_cases, basic.Lists.none-at, order.Steps.GetsIn, order.Records.Key}
-use our.lists.Sorted.{Some, Before, before-precedes}
-use our.nobody_able.Waiting.{server_of, server_in, QlWaits, nobody_fits, next_ready, Queued, Gated}
-use our.order.Records.{Member, opens, Rivals, EndsInOrder}
-use our.lists.Sums.{sum_on, sum-zero}
-use our.lists.SumFacts.{sum-some, sum_which}
-use our.order.Weights.{Wait, wait_of, weight, marked, waiting}
-use our.order.OpenWaits.{ForUnits, Linked, numbered, Alone, waiting_agree}
-use our.order.OpenPairs.{key, Pair, pair, is, only, only_self, only-equal, member-sum}
+use our.Decoding.Proper.{servers, Role, generating, taking, preempting, neither, role}
+use our.{Basic.Bools.cond_cases, Basic.Lists.none-at, Order.Steps.GetsIn, Order.Records.Key}
+use our.Lists.Sorted.{Some, Before, before-precedes}
+use our.NobodyAble.Waiting.{server_of, server_in, QlWaits, nobody_fits, next_ready, Queued, Gated}
+use our.Order.Records.{Member, opens, Rivals, EndsInOrder}
+use our.Lists.Sums.{sum_on, sum-zero}
+use our.Lists.SumFacts.{sum-some, sum_which}
+use our.Order.Weights.{Wait, wait_of, weight, marked, waiting}
+use our.Order.OpenWaits.{ForUnits, Linked, numbered, Alone, waiting_agree}
+use our.Order.OpenPairs.{key, Pair, pair, is, only, only_self, only-equal, member-sum}
 
 -- ---- A block that takes a server lets wait on no WEL and not on the WSL
 
@@ -208,20 +208,20 @@ module _ (m : BlockModel) (tape : List (List ℕ)) (t : Transaction) (s : State)
   Needs w = (facts (block_at m w.key.block)).server ≡ 0 → ⊥
 
   for-units : (w : Wait) → Needs w → ForUnits m (only w)
-  for-units w needs x z = go (ltb 0 (only w x)) refl
+  for-units w rules x z = go (ltb 0 (only w x)) refl
     where
       go : (b : Bool) → ltb 0 (only w x) ≡ b → only w x ≡ 0
-      go true e = absurd (needs (ap (λ (y : Wait). (facts (block_at m y.key.block)).server) (only-equal w x (ltb-true _ _ e)) ∙ z))
+      go true e = absurd (rules (ap (λ (y : Wait). (facts (block_at m y.key.block)).server) (only-equal w x (ltb-true _ _ e)) ∙ z))
       go false e = omega (arith, ltb-false 0 (only w x) e)
 
   -- an open wait for units is somebody's
   somebody : (w : Wait) → Needs w → Member w h.waits → 0 < waiting (only w) s + marked (only w) t
-  somebody w needs i = omega (arith, member-sum (only w) w h.waits i, only_self w, h.same (only w) (for-units w needs))
+  somebody w rules i = omega (arith, member-sum (only w) w h.waits i, only_self w, h.same (only w) (for-units w rules))
 
   -- and one of the taken one's number is its own
   own : (w : Wait) → Needs w → Member w h.waits → w.key.number ≡ t.number → 0 < marked (only w) t
   unfolding only is
-  own w needs i e = omega (arith, somebody w needs i, waiting_agree t.number s alone (only w) (λ x. 0) elsewhere, waiting_none s)
+  own w rules i e = omega (arith, somebody w rules i, waiting_agree t.number s alone (only w) (λ x. 0) elsewhere, waiting_none s)
     where
       elsewhere : (x : Wait) → numbered t.number x ≡ 0 → only w x ≡ 0
       elsewhere x d = rw (e, bit-zero (eqb t.number x.key.number) d)

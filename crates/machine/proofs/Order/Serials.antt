@@ -3,11 +3,11 @@
 -- weigh together at most as much as the serials given. Every turn keeps it: who comes there has the next serial, or came from there.
 use Rattle.machine.specs.All.{ℕ, zero, suc, ◌+◌, ◌*◌, ◌-◌, ◌≤◌, ◌<◌, ◌≡◌, refl, sym, ap, ◌∙◌, subst, Bool, true, false, not, true≢false, inl, inr, List, [], ◌∷◌, Option, none, some, arith, eqb, leb, ltb, get_or, set, take, drop, eq-eqb, leb-true, leb-false, ltb-true, ltb-false, Transaction, Event, Gatherer, precedes, those, flat, Code, Share, share_server, share_units, Block, generate, advance, terminate, takes, frees, wait_server, wait_terms, moves, assign, priority, split, counts, assemble, preempt, give_back, BlockModel, block_at, wel_index, State, with_priority, with_returning, with_next, with_serial, set_moving, log, enters, move_to, fresh, to_rel, to_fel, ql_of, wel_of, line_up, to_ql, to_wel, to_wsl, must_wait, wake_ql, wake_first_wel, wake_wsl, set_use, set_content, arrival, copies, to_gatherers, comes, released, interrupt, resume, take_units, part_for, wake_for, check_wels, ends_one, delay, effect, arrive_all, move_clock, next_events, take_first, take_ready, taking, answer, execute, waits_on, ws_scheme, turn, start_at, idle, start, Each, bit, up_to, server_at, free, facility, set_serial}
 use Rattle.machine.proofs as our
-use our.{decoding.Proper.servers, basic.Bools.cond_cases, basic.Taking.next_events-moving}
-use our.lists.Cases.{check_wels-kept, wait_server-cases, wait_terms-cases, assemble-cases, preempt-cases, give_back-cases, ws_scheme-cases, start_of-cases}
-use our.lists.Sorted.{Sorted, Before, before-precedes}
-use our.lists.Sums.{sum_on, sum-append, sum-insert, sum-those, sum_first, sum-flat-none, sum-wake, up_to-none, up_to-one}
-use our.lists.Lines.{sum-line_up, sum-part_for}
+use our.{Decoding.Proper.servers, Basic.Bools.cond_cases, Basic.Taking.next_events-moving}
+use our.Lists.Cases.{check_wels-kept, wait_server-cases, wait_terms-cases, assemble-cases, preempt-cases, give_back-cases, ws_scheme-cases, start_of-cases}
+use our.Lists.Sorted.{Sorted, Before, before-precedes}
+use our.Lists.Sums.{sum_on, sum-append, sum-insert, sum-those, sum_first, sum-flat-none, sum-wake, up_to-none, up_to-one}
+use our.Lists.Lines.{sum-line_up, sum-part_for}
 
 -- a list set in a place that is not there is lost
 sum-set : {A : Type 0} (f : A → ℕ) (ls : List (List A)) (i : ℕ) (l : List A)

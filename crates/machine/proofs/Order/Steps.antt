@@ -2,13 +2,13 @@
 -- family; or it is put back, or goes back to the first block of its group, and nothing is written.
 use Rattle.machine.specs.All.{ℕ, ◌+◌, ◌-◌, ◌<◌, ◌≡◌, refl, Bool, true, false, List, arith, leb, length, Transaction, precedes, Gatherer, Event, Interrupted, server_at, free, Code, Share, share_server, share_units, Block, generate, advance, terminate, takes, frees, wait_server, wait_terms, moves, assign, priority, split, counts, assemble, preempt, give_back, facts, BlockModel, wel_index, State, with_serial, set_serial, set_gatherers, set_ended, log, enters, move_to, fresh, ql_of, wel_of, line_up, to_ql, to_wel, to_wsl, must_wait, set_use, set_content, to_gatherers, comes, released, to_fel, interrupt, resume, take_units, ends_one, effect, facility}
 use Rattle.machine.proofs as our
-use our.decoding.Proper.{ProperBlock, servers}
-use our.{basic.Bools.cond_cases, nobody_able.Waiting.server_in, lists.Lines.sum-line_up}
-use our.lists.Cases.{wait_server-cases, wait_terms-cases, assemble-cases, preempt-cases, give_back-cases}
-use our.runs.Shape.{Shape, ql-at, wel-at}
-use our.decoding.Proper.{code-server, share-server}
-use our.lists.Sums.{sum-insert, sum-flat-set}
-use our.order.Weights.{Wait, weight, waiting, Quiet, quiet_refl, quiet_trans, quiet-wake_for, quiet-wake_first_wel, quiet-check_wels, quiet-to_rel, quiet-arrival, quiet-delay, quiet-copies}
+use our.Decoding.Proper.{ProperBlock, servers}
+use our.{Basic.Bools.cond_cases, NobodyAble.Waiting.server_in, Lists.Lines.sum-line_up}
+use our.Lists.Cases.{wait_server-cases, wait_terms-cases, assemble-cases, preempt-cases, give_back-cases}
+use our.Runs.Shape.{Shape, ql-at, wel-at}
+use our.Decoding.Proper.{code-server, share-server}
+use our.Lists.Sums.{sum-insert, sum-flat-set}
+use our.Order.Weights.{Wait, weight, waiting, Quiet, quiet_refl, quiet_trans, quiet-wake_for, quiet-wake_first_wel, quiet-check_wels, quiet-to_rel, quiet-arrival, quiet-delay, quiet-copies}
 
 -- ---- Definition
 

@@ -2,11 +2,11 @@
 -- One with the returning mark is the first of REL.
 use Rattle.machine.specs.All.{ℕ, ◌+◌, ◌≤◌, ◌≡◌, refl, sym, ap, subst, ◌∙◌, true, false, true≢false, List, [], ◌∷◌, map, Option, none, some, arith, eqb, eqb-true, eq-eqb, Transaction, Event, precedes, flat, those, BlockModel, State, with_returning, with_serial, set_moving, set_rel, fresh, to_rel, arrive_all, due, move_clock, next_events, take_first, take_ready, taking, moving_one, Each, bit, everyone, standing, Bool, cond}
 use Rattle.machine.proofs as our
-use our.{basic.Each.each-insert, order.Rivals.Standing, runs.Shape.Shape, basic.Taking.next_events-moving}
-use our.lists.Sums.{sum_on, sum-append, sum-insert, sum-those, sum-map, sum-count, sum-le}
-use our.order.Weights.{weight, marked, waiting, Unmarked, Quiet, quiet-next_events}
-use our.order.OpenWaits.{Linked, LinkedIn, numbered, Alone, linked_as, linked-quiet}
-use our.nobody_able.Waiting.{Waits, WaitsOver, Settled}
+use our.{Basic.Each.each-insert, Order.Rivals.Standing, Runs.Shape.Shape, Basic.Taking.next_events-moving}
+use our.Lists.Sums.{sum_on, sum-append, sum-insert, sum-those, sum-map, sum-count, sum-le}
+use our.Order.Weights.{weight, marked, waiting, Unmarked, Quiet, quiet-next_events}
+use our.Order.OpenWaits.{Linked, LinkedIn, numbered, Alone, linked_as, linked-quiet}
+use our.NobodyAble.Waiting.{Waits, WaitsOver, Settled}
 
 -- ---- Numbers on the lists
 

@@ -2,8 +2,8 @@
 -- the transaction that it takes: waking moves a wait to REL, and who is put there else has no mark.
 use Rattle.machine.specs.All.{ℕ, zero, suc, ◌+◌, ◌-◌, ◌≤◌, ◌≡◌, refl, ◌∙◌, Bool, true, false, cond, List, [], ◌∷◌, Option, none, some, arith, take, drop, Transaction, Event, precedes, insert, those, flat, Code, Share, share_server, BlockModel, wel_index, State, with_returning, with_serial, set_made, ql_of, wel_of, to_rel, to_fel, wake, Parted, wake_ql, wake_first_wel, wake_wsl, arrival, copies, part_for, wake_for, check_wels, delay, arrive_all, next_events, move_clock, ap}
 use Rattle.machine.proofs as our
-use our.{lists.Cases.check_wels-kept, order.Records.Key, lists.SumFacts.sum-part, lists.Lines.sum-part_for}
-use our.lists.Sums.{sum_on, sum-insert, sum-those, sum_first}
+use our.{Lists.Cases.check_wels-kept, Order.Records.Key, Lists.SumFacts.sum-part, Lists.Lines.sum-part_for}
+use our.Lists.Sums.{sum_on, sum-insert, sum-those, sum_first}
 
 -- ---- Definition
 

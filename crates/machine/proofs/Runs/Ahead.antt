@@ -1,9 +1,9 @@
 -- The FEL lies ahead: no move time is behind the clock, and times never fall along the FEL. So the clock never falls.
 use Rattle.machine.specs.All.{◌≤◌, Bool, List, [], ◌∷◌, arith, Event, earlier, insert, those, replace_first, State, Each}
 use Rattle.machine.proofs as our
-use our.basic.Bools.{cond_cases}
-use our.basic.Each.{Each-map, each-insert, each-those, each_replace}
-use our.lists.Sorted.{earlier-time, later-time}
+use our.Basic.Bools.{cond_cases}
+use our.Basic.Each.{Each-map, each-insert, each-those, each_replace}
+use our.Lists.Sorted.{earlier-time, later-time}
 
 abbrev pub Rising : List Event → Type 0
 Rising [] = Unit {0}

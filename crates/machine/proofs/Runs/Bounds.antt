@@ -2,8 +2,8 @@
 -- limit, never uses up its steps, and ends with one of the stated ends.
 use Rattle.machine.specs.All.{ℕ, zero, suc, ◌+◌, ◌≤◌, ◌<◌, ◌≡◌, refl, Bool, true, false, ◌||◌, List, arith, eqb-true, eqb-false, ne_eqb, T, eqb, max_turns, BlockModel, State, set_use, turn, end_before_lem, idle, start, run_from, run, steps, stated_end, Bounded, ap}
 use Rattle.machine.proofs as our
-use our.runs.RunLaws.{Taken, Before, taken, own, closing, before, Taken-of, run_on, run-off, last-state}
-use our.runs.Kept.{Stop, Closed, turn-kept, start-kept}
+use our.Runs.RunLaws.{Taken, Before, taken, own, closing, before, Taken-of, run_on, run-off, last-state}
+use our.Runs.Kept.{Stop, Closed, turn-kept, start-kept}
 
 -- ---- Every turn counts one, and ends with no end or a stated one
 

@@ -2,9 +2,9 @@
 use Rattle.machine.specs.All.{ℕ, ◌≤◌, ◌<◌, ◌%◌, ◌≡◌, ap, ◌∙◌, List, arith, lt-ltb, Rules, document01, View, signed, low32, wrap, clock_term, term, BlockModel, State, states, Each, ReadsClock, KeepsClockTerm, taking}
 use lib.IntN.{ℤ, pos}
 use Rattle.machine.proofs as our
-use our.{decoding.Proper.Proper, basic.Each.Each-map}
-use our.decoding.ProperFrom.{proper-from, rules-from}
-use our.runs.Clocks.{Timely, taking-timely, timely}
+use our.{Decoding.Proper.Proper, Basic.Each.Each-map}
+use our.Decoding.ProperFrom.{proper-from, rules-from}
+use our.Runs.Clocks.{Timely, taking-timely, timely}
 
 pub wrap_pos : (n : ℕ) → n < 2147483648 → wrap (pos n) ≡ pos n
 unfolding wrap low32 signed

@@ -1,11 +1,11 @@
 -- A claim about every transaction of a state: what the single moves of transactions keep, a turn and the start keep.
 use Rattle.machine.specs.All.{ℕ, zero, suc, ◌+◌, ◌*◌, ◌-◌, ◌≡◌, refl, subst, Bool, true, false, List, [], ◌∷◌, ◌++◌, map, Option, none, some, length, set, take, replicate, Transaction, Event, Gatherer, Interrupted, precedes, earlier, newborn, flat, Code, Share, BlockModel, State, with_next, with_serial, with_returning, with_stamp, set_ended, set_gatherers, gatherers_at, waits_for, to_gatherers, comes, released, interrupted_at, losers_to, interrupt, of_facility, resume, begin_wait, log, enters, move_to, to_rel, to_fel, to_ql, to_wel, to_wsl, must_wait, wake, wake_ql, wake_first_wel, wake_wsl, set_use, set_content, arrival, copy_of, copies, ql_of, wel_of, wake_for, check_wels, ends_one, delay, arrive_all, move_clock, next_events, take_first, take_ready, taking, ws_scheme, idle, moving_one, Each, everyone, share_server, wel_index, set_serial, in_family, loses_to, fresh, due}
 use Rattle.machine.proofs as our
-use our.basic.Bools.{cond_cases}
-use our.basic.Each.{Each-set, each-get_or, each-insert, each-those, each-drop, each_replace}
-use our.lists.Cases.{check_wels-kept, ws_scheme-cases}
-use our.lists.Lines.{each-line_up, both-part_for}
-use our.basic.Each.{each_append, each-flat, each-replicate, each_take, each_mapped}
+use our.Basic.Bools.{cond_cases}
+use our.Basic.Each.{Each-set, each-get_or, each-insert, each-those, each-drop, each_replace}
+use our.Lists.Cases.{check_wels-kept, ws_scheme-cases}
+use our.Lists.Lines.{each-line_up, both-part_for}
+use our.Basic.Each.{each_append, each-flat, each-replicate, each_take, each_mapped}
 
 -- ---- Definition
 

@@ -2,8 +2,8 @@
 -- turn and the start keep.
 use Rattle.machine.specs.All.{ℕ, zero, suc, ◌+◌, ◌≤◌, Bool, true, false, not, ◌&&◌, ◌||◌, List, [], ◌∷◌, Option, none, some, arith, leb-true, T, eqb, leb, set, max_living, Transaction, Event, Gatherer, Interrupted, Queue, server_at, free, Code, Share, facility, storage, share_server, share_units, Change, up, down, Block, generate, advance, terminate, takes, frees, wait_server, wait_terms, moves, assign, priority, split, counts, assemble, preempt, give_back, BlockModel, State, Logged, set_clock, set_entries, set_queues, set_view, set_counter, set_samples, set_ql, set_wel, set_wsl, set_rel, set_fel, set_gatherers, set_interrupted, set_moving, set_serial, set_made, set_ended, set_turns, set_records, set_written, set_end, log, enters, move_to, to_rel, to_fel, to_ql, to_wel, to_wsl, begin_wait, must_wait, wake_ql, wake_first_wel, wake_wsl, set_use, set_holder, set_content, arrival, copies, to_gatherers, comes, released, interrupt, resume, unless, living, ask_generate, ask_advance, ask_content, ask_ends, ask_holder, held, ask_gathers, ask_resume, ask_gives_back, changed, question, take_units, wake_for, check_wels, ends_one, delay, effect, free_units, sample, arrive_all, move_clock, next_events, take_first, take_ready, taking, answer, execute, ws_scheme, turn, start_at, idle, start, stated_end, queue_at, block_at, times_left, waits_for, interrupted_at}
 use Rattle.machine.proofs as our
-use our.basic.Bools.{cond_cases}
-use our.lists.Cases.{check_wels-kept, wait_server-cases, wait_terms-cases, assemble-cases, preempt-cases, give_back-cases, ws_scheme-cases, start_of-cases}
+use our.Basic.Bools.{cond_cases}
+use our.Lists.Cases.{check_wels-kept, wait_server-cases, wait_terms-cases, assemble-cases, preempt-cases, give_back-cases, ws_scheme-cases, start_of-cases}
 
 -- ---- Definition
 

@@ -1,11 +1,11 @@
 -- Every transaction of a run stands before a block of the model, with a priority in its range.
 use Rattle.machine.specs.All.{ℕ, zero, suc, ◌+◌, ◌-◌, ◌≤◌, ◌<◌, ◌≡◌, refl, Bool, true, false, not, ◌||◌, cond, List, [], ◌∷◌, Option, none, some, arith, T, leb, length, get_or, max_priority, Transaction, newborn, compare, truth, Condition, always, when_true, Share, share_server, share_units, Block, generate, advance, terminate, takes, frees, wait_server, wait_terms, moves, assign, priority, split, counts, assemble, preempt, give_back, facts, BlockModel, block_at, unconditional, State, with_next, effect, take_units, answer, execute, turn, start_at, start, states, Each, is_generate, well_placed, server_at, free, facility, set_moving, set_turns, taking}
 use Rattle.machine.proofs as our
-use our.decoding.Proper.{Names, ProperBlock, Proper, generates-list}
-use our.decoding.Groups.{and_right, blocks-placed, back-within}
-use our.{runs.RunLaws.each-state, basic.Bools.cond_cases}
-use our.lists.Cases.{wait_server-cases, wait_terms-cases, assemble-cases, start_of-cases, preempt-cases, give_back-cases}
-use our.runs.Everybody.{Maybe, Everybody, Unmoved, to_rel-everybody, wait_ql-everybody, wait_wel-everybody, wait_wsl-everybody, move_to-everybody, wake_for-everybody, wake_first_wel-everybody, check_wels-everybody, ws_scheme-everybody, arrival-everybody, copies-everybody, delay-everybody, enters-everybody, in_use-everybody, content-everybody, ends_one-everybody, ended-everybody, begins-everybody, waiter-everybody, comes-everybody, released-everybody, taking-everybody, idle-everybody, loser-everybody, interrupted-everybody, interrupt-everybody, resume-everybody}
+use our.Decoding.Proper.{Names, ProperBlock, Proper, generates-list}
+use our.Decoding.Groups.{and_right, blocks-placed, back-within}
+use our.{Runs.RunLaws.each-state, Basic.Bools.cond_cases}
+use our.Lists.Cases.{wait_server-cases, wait_terms-cases, assemble-cases, start_of-cases, preempt-cases, give_back-cases}
+use our.Runs.Everybody.{Maybe, Everybody, Unmoved, to_rel-everybody, wait_ql-everybody, wait_wel-everybody, wait_wsl-everybody, move_to-everybody, wake_for-everybody, wake_first_wel-everybody, check_wels-everybody, ws_scheme-everybody, arrival-everybody, copies-everybody, delay-everybody, enters-everybody, in_use-everybody, content-everybody, ends_one-everybody, ended-everybody, begins-everybody, waiter-everybody, comes-everybody, released-everybody, taking-everybody, idle-everybody, loser-everybody, interrupted-everybody, interrupt-everybody, resume-everybody}
 
 -- ---- Question 7: behind a block that lets its transaction go on stands another
 

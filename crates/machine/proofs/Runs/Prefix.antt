@@ -3,8 +3,8 @@
 use Rattle.machine.specs.All.{cases, ℕ, zero, suc, ◌+◌, ◌-◌, ◌≤◌, ◌<◌, ◌≡◌, refl, sym, ap, ◌∙◌, ◌||◌, List, [], ◌∷◌, ◌++◌, map, reverse, append_assoc, map-append, reverse-append, length, drop, drop-append_seam, arith, zero-add, suc-add, eqb-true, eqb-false, eq-eqb, le-ltb, lt-leb, leb, ltb, eqb, max_serial, max_turns, record_room, Record, BlockModel, State, Logged, set_use, set_end, turn, nobody_left, end_before_lem, idle, start, run_from, states_from, run, states, steps, records_of, Each}
 use Rattle.machine.specs.Prefix.{BeginsWith, Prefix, StatesAreRuns}
 use Rattle.machine.proofs as our
-use our.runs.RunLaws.{Taken, before, Taken-of, run_on, run-off, states-on, states-off, Each-map}
-use our.runs.Kept.{Closed, turn-kept, start-kept}
+use our.Runs.RunLaws.{Taken, before, Taken-of, run_on, run-off, states-on, states-off, Each-map}
+use our.Runs.Kept.{Closed, turn-kept, start-kept}
 
 -- ---- Turns: each counts one and writes behind what was written
 

@@ -2,9 +2,9 @@
 -- entries and sample lists as the model says, each server of its capacity and never in use beyond it.
 use Rattle.machine.specs.All.{ℕ, zero, suc, ◌+◌, ◌*◌, ◌-◌, ◌≤◌, ◌<◌, ◌≡◌, refl, sym, ap, ◌∙◌, Bool, true≢false, List, [], ◌∷◌, ◌++◌, map, arith, ltb-true, ltb-false, ltb, length, get_or, set, replicate, length-set, length-map, length-append, length-replicate, get_or-replicate, get_or-map, get_or-append, map-set_same, Transaction, Gatherer, nth, set_nth, Server, View, Queue, idle_server, server_at, Code, U, NU, E, NE, F, NF, code_index, assemble, facts, BlockModel, block_at, wel_index, State, with_use, set_clock, set_entries, set_queues, set_servers, set_use, sample_servers, sample_queue, sample, turn, idle, start, Each, true, false, Block, terminate}
 use Rattle.machine.proofs as our
-use our.decoding.Proper.{servers}
-use our.runs.Kept.{Closed, turn-kept, start-kept}
-use our.basic.Each.{each_append}
+use our.Decoding.Proper.{servers}
+use our.Runs.Kept.{Closed, turn-kept, start-kept}
+use our.Basic.Each.{each_append}
 pub use Rattle.machine.proofs.Basic.Each.{each_set, each-get_or}
 
 -- ---- Definition

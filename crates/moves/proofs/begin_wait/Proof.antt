@@ -1,5 +1,5 @@
 -- `begin_wait` meets its contract: its row, then the scalars.
-use Rattle.machine.specs.All.{refl, needs}
+use Rattle.machine.specs.All.{refl, rules}
 use Rattle.moves.proofs.begin_wait.Statement.{statement}
 use Rattle.moves.proofs.begin_wait.Tie as tie
 
@@ -9,4 +9,4 @@ returns c =
     rw c.with-outcome.ensures (at-row-begins-wait.row-begins-wait.ensures _ refl refl)
 
 pub begin-wait-spec : {M : Type 1} → statement M
-begin-wait-spec = tie.close (tie.spec (search needs) (search needs) (search needs) returns)
+begin-wait-spec = tie.close (tie.spec (search rules) (search rules) (search rules) returns)

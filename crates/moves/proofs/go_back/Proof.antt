@@ -1,6 +1,6 @@
 -- `go_back` meets its contract: the next block is written, the mark cleared.
 use Rattle.moves.specs.{go_back}
-use Rattle.machine.specs.All.{needs}
+use Rattle.machine.specs.All.{rules}
 use Rattle.moves.proofs.go_back.Statement.{statement}
 use Rattle.moves.proofs.go_back.Tie as tie
 
@@ -14,4 +14,4 @@ returns c =
     rw (at-set-returning.set-returning.ensures, at-write.write.ensures, at-less32.less32.ensures, at_read.read.ensures)
 
 pub go-back-spec : {M : Type 1} → statement M
-go-back-spec = tie.close (tie.spec (search needs) (search needs) (search needs) (search needs) (search needs) returns)
+go-back-spec = tie.close (tie.spec (search rules) (search rules) (search rules) (search rules) (search rules) returns)

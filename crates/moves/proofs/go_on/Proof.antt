@@ -1,5 +1,5 @@
 -- `go_on` meets its contract: its row, then the scalars.
-use Rattle.machine.specs.All.{refl, needs}
+use Rattle.machine.specs.All.{refl, rules}
 use Rattle.moves.proofs.go_on.Statement.{statement}
 use Rattle.moves.proofs.go_on.Tie as tie
 
@@ -9,4 +9,4 @@ returns c =
     rw c.with-outcome.ensures (at-row-goes-on.row-goes-on.ensures _ refl)
 
 pub go-on-spec : {M : Type 1} → statement M
-go-on-spec = tie.close (tie.spec (search needs) (search needs) (search needs) returns)
+go-on-spec = tie.close (tie.spec (search rules) (search rules) (search rules) returns)

@@ -1,5 +1,5 @@
 -- `go_to` meets its contract: its row, then the scalars.
-use Rattle.machine.specs.All.{refl, needs}
+use Rattle.machine.specs.All.{refl, rules}
 use Rattle.moves.proofs.go_to.Statement.{statement}
 use Rattle.moves.proofs.go_to.Tie as tie
 
@@ -9,4 +9,4 @@ returns c =
     rw c.with-outcome.ensures (at-row-goes-to.row-goes-to.ensures _ refl)
 
 pub go-to-spec : {M : Type 1} → statement M
-go-to-spec = tie.close (tie.spec (search needs) (search needs) (search needs) returns)
+go-to-spec = tie.close (tie.spec (search rules) (search rules) (search rules) returns)

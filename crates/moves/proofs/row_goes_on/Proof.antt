@@ -1,5 +1,5 @@
 -- `row_goes_on` meets its contract: the row goes to the next block plus one.
-use Rattle.machine.specs.All.{refl, ap, ◌∙◌, needs}
+use Rattle.machine.specs.All.{refl, ap, ◌∙◌, rules}
 use Rattle.moves.specs.{go_on_lem, go_to}
 use Rattle.moves.proofs.row_goes_on.Statement.{statement}
 use Rattle.moves.proofs.row_goes_on.Tie as tie
@@ -15,4 +15,4 @@ returns c =
     rw e (at-row-goes-to.row-goes-to.ensures _ refl ∙ ap (go_to _ _) (at-plus32.plus32.ensures ∙ ap next32 at_read.read.ensures))
 
 pub row-goes-on-spec : {M : Type 1} → statement M
-row-goes-on-spec = tie.close (tie.spec (search needs) (search needs) (search needs) (search needs) returns)
+row-goes-on-spec = tie.close (tie.spec (search rules) (search rules) (search rules) (search rules) returns)

@@ -1,6 +1,6 @@
 -- `row_goes_to` meets its contract: the next block is written, the mark cleared.
 use Rattle.moves.specs.{with_outcome, go_to}
-use Rattle.machine.specs.All.{needs}
+use Rattle.machine.specs.All.{rules}
 use Rattle.moves.proofs.row_goes_to.Statement.{statement}
 use Rattle.moves.proofs.row_goes_to.Tie as tie
 
@@ -12,4 +12,4 @@ returns c =
     λ x e. rw (e, at-set-returning.set-returning.ensures, at-write.write.ensures)
 
 pub row-goes-to-spec : {M : Type 1} → statement M
-row-goes-to-spec = tie.close (tie.spec (search needs) (search needs) (search needs) returns)
+row-goes-to-spec = tie.close (tie.spec (search rules) (search rules) (search rules) returns)

@@ -1,5 +1,5 @@
 -- `row_waits` meets its contract, by cases on the mark.
-use Rattle.machine.specs.All.{refl, eq-eqb, ne_eqb, needs}
+use Rattle.machine.specs.All.{refl, eq-eqb, ne_eqb, rules}
 use Rattle.moves.specs.{with_outcome, put_back, wait_on}
 use Rattle.moves.proofs.row_waits.Statement.{statement}
 use Rattle.moves.proofs.row_waits.Tie as tie
@@ -22,4 +22,4 @@ waits-anew c =
     rw (e, f, ← at_read.read.ensures, ne_eqb _ _ at-else1.if1.left) (at-row-begins-wait.row-begins-wait.ensures _ refl refl)
 
 pub row-waits-spec : {M : Type 1} → statement M
-row-waits-spec = tie.close (tie.spec (search needs) (search needs) (search needs) returning (search needs) (search needs) waits-anew)
+row-waits-spec = tie.close (tie.spec (search rules) (search rules) (search rules) returning (search rules) (search rules) waits-anew)

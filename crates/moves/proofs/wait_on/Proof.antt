@@ -1,5 +1,5 @@
 -- `wait_on` meets its contract: its row, then the scalars.
-use Rattle.machine.specs.All.{refl, needs}
+use Rattle.machine.specs.All.{refl, rules}
 use Rattle.moves.proofs.wait_on.Statement.{statement}
 use Rattle.moves.proofs.wait_on.Tie as tie
 
@@ -9,4 +9,4 @@ returns c =
     rw c.with-outcome.ensures (at-row-waits.row-waits.ensures _ refl refl)
 
 pub wait-on-spec : {M : Type 1} → statement M
-wait-on-spec = tie.close (tie.spec (search needs) (search needs) (search needs) returns)
+wait-on-spec = tie.close (tie.spec (search rules) (search rules) (search rules) returns)

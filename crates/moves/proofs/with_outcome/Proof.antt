@@ -1,5 +1,5 @@
 -- `with_outcome` meets its contract, by cases on the outcome.
-use Rattle.machine.specs.All.{ℕ, ◌≡◌, ◌≢◌, eq-eqb, ne_eqb, needs}
+use Rattle.machine.specs.All.{ℕ, ◌≡◌, ◌≢◌, eq-eqb, ne_eqb, rules}
 use Rattle.state.specs.{declared.scalars.Scalars.Scalars, All.put_note, All.put_moving, All.put_serial}
 use Rattle.moves.specs.{next32, with_outcome}
 use Rattle.moves.proofs as our
@@ -33,4 +33,4 @@ no_record : tie.Need-returns-3
 no_record c = returned _ _ _ c.before.before.by-fields.ensures c.before.if1.false c.if2.false
 
 pub with-outcome-spec : {M : Type 1} → statement M
-with-outcome-spec = tie.close (tie.spec (search needs) enters (search needs) waits no_record)
+with-outcome-spec = tie.close (tie.spec (search rules) enters (search rules) waits no_record)

@@ -1,7 +1,7 @@
 -- The proof of the cycle of calls: a term, a comparison, a sum and its terms, each by its law of Steps.
 -- The measure is 32 for each bracket that may open, and less than 32 for where reading stands between two brackets: after a
 -- count of at most 8, a sum has its terms left, and a comparison its two.
-use Rattle.machine.specs.All.{needs, ◌+◌, ◌*◌, arith, ℕ, ◌<◌}
+use Rattle.machine.specs.All.{rules, ◌+◌, ◌*◌, arith, ℕ, ◌<◌}
 use Rattle.parse_values.proofs as our
 use our.Steps.{comparison-stop, comparison-stop-2, comparison-kept, sum-stop, sum_kept, terms-none, terms-stop, terms-stop-2, terms-kept, term-stop, term-operand, term_fifth, term-comparison, term-bracket}
 use our.comparison.Reads as comparison
@@ -69,7 +69,7 @@ comparison-keep-counted-requires : (t : ℕ) → comparison-lts.Need-keep-counte
   value-term-below t,
   value-term.Post,
 ) (comparison-at t) comparison.Post
-comparison-keep-counted-requires t c κs = search needs
+comparison-keep-counted-requires t c κs = search rules
 
 comparison-enum-known-n : (t : ℕ) → comparison-lts.Need-enum-known-n (
   keep-counted-reads.Asked,
@@ -77,7 +77,7 @@ comparison-enum-known-n : (t : ℕ) → comparison-lts.Need-enum-known-n (
   value-term-below t,
   value-term.Post,
 ) (comparison-at t) comparison.Post
-comparison-enum-known-n t c = search needs
+comparison-enum-known-n t c = search rules
 
 comparison-enum-known-q : (t : ℕ) → comparison-lts.Need-enum-known-q (
   keep-counted-reads.Asked,
@@ -85,7 +85,7 @@ comparison-enum-known-q : (t : ℕ) → comparison-lts.Need-enum-known-q (
   value-term-below t,
   value-term.Post,
 ) (comparison-at t) comparison.Post
-comparison-enum-known-q t c = search needs
+comparison-enum-known-q t c = search rules
 
 comparison-value-term-requires : (t : ℕ) → comparison-lts.Need-value-term-requires (
   keep-counted-reads.Asked,
@@ -101,7 +101,7 @@ comparison-enum-known-n-2 : (t : ℕ) → comparison-lts.Need-enum-known-n-2 (
   value-term-below t,
   value-term.Post,
 ) (comparison-at t) comparison.Post
-comparison-enum-known-n-2 t c = search needs
+comparison-enum-known-n-2 t c = search rules
 
 comparison-enum-known-left : (t : ℕ) → comparison-lts.Need-enum-known-left (
   keep-counted-reads.Asked,
@@ -109,7 +109,7 @@ comparison-enum-known-left : (t : ℕ) → comparison-lts.Need-enum-known-left (
   value-term-below t,
   value-term.Post,
 ) (comparison-at t) comparison.Post
-comparison-enum-known-left t c = search needs
+comparison-enum-known-left t c = search rules
 
 comparison-value-term-requires-2 : (t : ℕ) → comparison-lts.Need-value-term-requires-2 (
   keep-counted-reads.Asked,
@@ -157,7 +157,7 @@ sum-keep-counted-requires : (t : ℕ) → sum-lts.Need-keep-counted-requires (
   sum-terms-below t,
   sum-terms.Post,
 ) (sum-at t) sum.Post
-sum-keep-counted-requires t c κs = search needs
+sum-keep-counted-requires t c κs = search rules
 
 sum-enum-known-n : (t : ℕ) → sum-lts.Need-enum-known-n (
   keep-counted-reads.Asked,
@@ -165,7 +165,7 @@ sum-enum-known-n : (t : ℕ) → sum-lts.Need-enum-known-n (
   sum-terms-below t,
   sum-terms.Post,
 ) (sum-at t) sum.Post
-sum-enum-known-n t c = search needs
+sum-enum-known-n t c = search rules
 
 sum-enum-known-count : (t : ℕ) → sum-lts.Need-enum-known-count (
   keep-counted-reads.Asked,
@@ -173,7 +173,7 @@ sum-enum-known-count : (t : ℕ) → sum-lts.Need-enum-known-count (
   sum-terms-below t,
   sum-terms.Post,
 ) (sum-at t) sum.Post
-sum-enum-known-count t c = search needs
+sum-enum-known-count t c = search rules
 
 sum-sum-terms-requires : (t : ℕ) → sum-lts.Need-sum-terms-requires (
   keep-counted-reads.Asked,
@@ -222,7 +222,7 @@ sum-terms-keep-counted-requires : (t : ℕ) → sum-terms-lts.Need-keep-counted-
   sum-terms-below t,
   sum-terms.Post,
 ) (sum-terms-at t) sum-terms.Post
-sum-terms-keep-counted-requires t c κs = search needs
+sum-terms-keep-counted-requires t c κs = search rules
 
 sum-terms-enum-known-n : (t : ℕ) → sum-terms-lts.Need-enum-known-n (
   keep-counted-reads.Asked,
@@ -232,7 +232,7 @@ sum-terms-enum-known-n : (t : ℕ) → sum-terms-lts.Need-enum-known-n (
   sum-terms-below t,
   sum-terms.Post,
 ) (sum-terms-at t) sum-terms.Post
-sum-terms-enum-known-n t c = search needs
+sum-terms-enum-known-n t c = search rules
 
 sum-terms-enum-known-q : (t : ℕ) → sum-terms-lts.Need-enum-known-q (
   keep-counted-reads.Asked,
@@ -242,7 +242,7 @@ sum-terms-enum-known-q : (t : ℕ) → sum-terms-lts.Need-enum-known-q (
   sum-terms-below t,
   sum-terms.Post,
 ) (sum-terms-at t) sum-terms.Post
-sum-terms-enum-known-q t c = search needs
+sum-terms-enum-known-q t c = search rules
 
 sum-terms-value-term-requires : (t : ℕ) → sum-terms-lts.Need-value-term-requires (
   keep-counted-reads.Asked,
@@ -262,7 +262,7 @@ sum-terms-enum-known-n-2 : (t : ℕ) → sum-terms-lts.Need-enum-known-n-2 (
   sum-terms-below t,
   sum-terms.Post,
 ) (sum-terms-at t) sum-terms.Post
-sum-terms-enum-known-n-2 t c = search needs
+sum-terms-enum-known-n-2 t c = search rules
 
 sum-terms-enum-known-after : (t : ℕ) → sum-terms-lts.Need-enum-known-after (
   keep-counted-reads.Asked,
@@ -272,7 +272,7 @@ sum-terms-enum-known-after : (t : ℕ) → sum-terms-lts.Need-enum-known-after (
   sum-terms-below t,
   sum-terms.Post,
 ) (sum-terms-at t) sum-terms.Post
-sum-terms-enum-known-after t c = search needs
+sum-terms-enum-known-after t c = search rules
 
 sum-terms-sub-sum-terms : (t : ℕ) → sum-terms-lts.Need-overflow-sub-sum-terms (
   keep-counted-reads.Asked,
@@ -346,7 +346,7 @@ value-term-keep-counted-requires : (t : ℕ) → value-term-lts.Need-keep-counte
   sum_below t,
   sum.Post,
 ) (value-term-at t) value-term.Post
-value-term-keep-counted-requires t c κs = search needs
+value-term-keep-counted-requires t c κs = search rules
 
 value-term-enum-known-n : (t : ℕ) → value-term-lts.Need-enum-known-n (
   keep-counted-reads.Asked,
@@ -358,7 +358,7 @@ value-term-enum-known-n : (t : ℕ) → value-term-lts.Need-enum-known-n (
   sum_below t,
   sum.Post,
 ) (value-term-at t) value-term.Post
-value-term-enum-known-n t c = search needs
+value-term-enum-known-n t c = search rules
 
 value-term-enum-known-tag : (t : ℕ) → value-term-lts.Need-enum-known-tag (
   keep-counted-reads.Asked,
@@ -370,7 +370,7 @@ value-term-enum-known-tag : (t : ℕ) → value-term-lts.Need-enum-known-tag (
   sum_below t,
   sum.Post,
 ) (value-term-at t) value-term.Post
-value-term-enum-known-tag t c = search needs
+value-term-enum-known-tag t c = search rules
 
 value-term-operand-requires : (t : ℕ) → value-term-lts.Need-operand-requires (
   keep-counted-reads.Asked,

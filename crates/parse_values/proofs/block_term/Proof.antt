@@ -2,7 +2,7 @@
 use Rattle.parse_values.proofs as our
 use our.Steps.{block-stop, block-stop-2, Block-read}
 use our.block_term as f
-use Rattle.machine.specs.All.{needs}
+use Rattle.machine.specs.All.{rules}
 
 returns-refused-keep : f.Tie.Need-returns
 returns-refused-keep c =
@@ -31,14 +31,14 @@ pub block-term-spec : {M : Type 1} → f.Statement.statement M
 block-term-spec =
     f.Tie.close
     (f.Tie.spec
-    (search needs)
-    (search needs)
-    (search needs)
-    (search needs)
-    (search needs)
-    (search needs)
-    (search needs)
-    (search needs)
+    (search rules)
+    (search rules)
+    (search rules)
+    (search rules)
+    (search rules)
+    (search rules)
+    (search rules)
+    (search rules)
     returns-refused-keep
     returns-refused-keep-2
     returns-number)

@@ -1,5 +1,5 @@
 -- `values::keep` meets its contract: that of `number`, and one store.
-use Rattle.machine.specs.All.{arith, needs}
+use Rattle.machine.specs.All.{arith, rules}
 use Rattle.parse_values.proofs as our
 use our.Steps.{keep-refused, keep-read, taken-number, taken-range}
 use our.keep as f
@@ -36,13 +36,13 @@ pub keep_spec : {M : Type 1} → f.Statement.statement M
 keep_spec =
     f.Tie.close
     (f.Tie.spec
-    (search needs)
-    (search needs)
-    (search needs)
+    (search rules)
+    (search rules)
+    (search rules)
     sub-tables
     add-tables
     cast-tables
-    (search needs)
-    (search needs)
+    (search rules)
+    (search rules)
     returns-refused
     returns-number)

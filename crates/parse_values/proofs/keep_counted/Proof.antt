@@ -1,5 +1,5 @@
 -- `values::keep_counted` meets its contract: that of `number`, the question of 64 numbers, and one store.
-use Rattle.machine.specs.All.{arith, needs}
+use Rattle.machine.specs.All.{arith, rules}
 use Rattle.parse_values.proofs as our
 use our.Steps.{counted-refused, counted-past, counted-read, taken-number, taken-range}
 use our.keep_counted as f
@@ -46,16 +46,16 @@ pub keep-counted-spec : {M : Type 1} → f.Statement.statement M
 keep-counted-spec =
     f.Tie.close
     (f.Tie.spec
-    (search needs)
-    (search needs)
-    (search needs)
+    (search rules)
+    (search rules)
+    (search rules)
     returns-refused
     sub-tables
     add-tables
     cast-tables
-    (search needs)
-    (search needs)
-    (search needs)
-    (search needs)
+    (search rules)
+    (search rules)
+    (search rules)
+    (search rules)
     returns-max-value-numbers-at-most-numbers
     returns-number)

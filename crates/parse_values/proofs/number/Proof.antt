@@ -1,5 +1,5 @@
 -- `values::number` meets its contract: that of `codec::read_field`, with the place beside it.
-use Rattle.machine.specs.All.{refl, needs}
+use Rattle.machine.specs.All.{refl, rules}
 use Rattle.parse_values.proofs as our
 use our.Steps.{number-refused, number_read, number-range, taken-number}
 use our.number as f
@@ -19,8 +19,8 @@ returns-value c =
 
 pub number-spec : {M : Type 1} → f.Statement.statement M
 number-spec = f.Tie.close (f.Tie.spec
-    (search needs)
-    (search needs)
-    (search needs)
+    (search rules)
+    (search rules)
+    (search rules)
     returns-refused
     returns-value)

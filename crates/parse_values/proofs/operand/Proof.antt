@@ -2,7 +2,7 @@
 use Rattle.parse_values.proofs as our
 use our.Steps.{operand-stop, operand_third, operand_mention, operand_larger, operand-lower, operand-other}
 use our.operand as f
-use Rattle.machine.specs.All.{needs}
+use Rattle.machine.specs.All.{rules}
 
 returns-refused : f.Tie.Need-returns
 returns-refused c =
@@ -67,12 +67,12 @@ pub operand-spec : {M : Type 1} → f.Statement.statement M
 operand-spec =
     f.Tie.close
     (f.Tie.spec
-    (search needs)
-    (search needs)
-    (search needs)
-    (search needs)
+    (search rules)
+    (search rules)
+    (search rules)
+    (search rules)
     returns-refused
-    (search needs)
+    (search rules)
     returns-max-mentions-at-most-mentions
     returns-tag-is-value-tag
     returns-named-below-v

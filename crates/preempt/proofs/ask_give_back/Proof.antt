@@ -1,5 +1,5 @@
 -- `ask_give_back` meets its contract: 24, then 27, then 22.
-use Rattle.machine.specs.All.{lt-ltb, le-ltb, eq-eqb, ne_eqb, needs}
+use Rattle.machine.specs.All.{lt-ltb, le-ltb, eq-eqb, ne_eqb, rules}
 use Rattle.preempt_laws.specs.Preempting.{ask_give_back}
 use Rattle.preempt.proofs.ask_give_back.Statement.{statement}
 use Rattle.preempt.proofs.ask_give_back.Tie as tie
@@ -58,13 +58,13 @@ pub ask-give-back-spec : {M : Type 1} → statement M
 ask-give-back-spec =
     tie.close
     (tie.spec
-    (search needs)
+    (search rules)
     not-in-use
-    (search needs)
+    (search rules)
     not-preempted
-    (search needs)
+    (search rules)
     other-holder
-    (search needs)
-    (search needs)
-    (search needs)
+    (search rules)
+    (search rules)
+    (search rules)
     by-loser)

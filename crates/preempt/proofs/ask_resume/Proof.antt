@@ -1,5 +1,5 @@
 -- `ask_resume` meets its contract, by cases on whether there is a row.
-use Rattle.machine.specs.All.{lt-ltb, le-ltb, needs}
+use Rattle.machine.specs.All.{lt-ltb, le-ltb, rules}
 use Rattle.preempt_laws.specs.Preempting.{ask_resume}
 use Rattle.preempt.proofs.ask_resume.Statement.{statement}
 use Rattle.preempt.proofs.ask_resume.Tie as tie
@@ -13,4 +13,4 @@ unfolding ask_resume
 by-time c = rw (lt-ltb _ 1024 c.before.before.if1.false, ← c.before.time.ensures, ← c.ask-time.ensures)
 
 pub ask-resume-spec : {M : Type 1} → statement M
-ask-resume-spec = tie.close (tie.spec nobody-stopped (search needs) (search needs) by-time)
+ask-resume-spec = tie.close (tie.spec nobody-stopped (search rules) (search rules) by-time)

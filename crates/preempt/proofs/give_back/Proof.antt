@@ -1,5 +1,5 @@
 -- `give_back` meets its contract, by cases on the question.
-use Rattle.machine.specs.All.{eq-eqb, ne_eqb, needs}
+use Rattle.machine.specs.All.{eq-eqb, ne_eqb, rules}
 use Rattle.preempt_laws.specs.Preempting.{give_back_rows}
 use Rattle.preempt.proofs.give_back.Statement.{statement}
 use Rattle.preempt.proofs.give_back.Tie as tie
@@ -39,16 +39,16 @@ pub give-back-spec : {M : Type 1} → statement M
 give-back-spec =
     tie.close
     (tie.spec
-    (search needs)
-    (search needs)
-    (search needs)
-    (search needs)
-    (search needs)
-    (search needs)
-    (search needs)
-    (search needs)
+    (search rules)
+    (search rules)
+    (search rules)
+    (search rules)
+    (search rules)
+    (search rules)
+    (search rules)
+    (search rules)
     stopped
-    (search needs)
-    (search needs)
-    (search needs)
+    (search rules)
+    (search rules)
+    (search rules)
     given_back)

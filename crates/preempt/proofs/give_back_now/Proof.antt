@@ -1,5 +1,5 @@
 -- `give_back_now` meets its contract, by cases on the first of the facility's list.
-use Rattle.machine.specs.All.{refl, lt-ltb, le-ltb, needs}
+use Rattle.machine.specs.All.{refl, lt-ltb, le-ltb, rules}
 use Rattle.preempt_laws.specs.Preempting.{give_back_now}
 use Rattle.preempt.proofs.give_back_now.Statement.{statement}
 use Rattle.preempt.proofs.give_back_now.Tie as tie
@@ -33,16 +33,16 @@ pub give-back-now-spec : {M : Type 1} → statement M
 give-back-now-spec =
     tie.close
     (tie.spec
-    (search needs)
-    (search needs)
-    (search needs)
-    (search needs)
-    (search needs)
+    (search rules)
+    (search rules)
+    (search rules)
+    (search rules)
+    (search rules)
     to-loser
-    (search needs)
-    (search needs)
-    (search needs)
-    (search needs)
-    (search needs)
-    (search needs)
+    (search rules)
+    (search rules)
+    (search rules)
+    (search rules)
+    (search rules)
+    (search rules)
     to-waiters)

@@ -1,6 +1,6 @@
 -- `interrupt_on` meets its contract: the steps in order.
 use Rattle.preempt_laws.specs.Preempting.{interrupt_on}
-use Rattle.machine.specs.All.{needs}
+use Rattle.machine.specs.All.{rules}
 use Rattle.preempt.proofs.interrupt_on.Statement.{statement}
 use Rattle.preempt.proofs.interrupt_on.Tie as tie
 
@@ -22,4 +22,4 @@ returns c =
 
 pub interrupt-on-spec : {M : Type 1} → statement M
 interrupt-on-spec =
-    tie.close (tie.spec (search needs) (search needs) (search needs) (search needs) (search needs) (search needs) (search needs) returns)
+    tie.close (tie.spec (search rules) (search rules) (search rules) (search rules) (search rules) (search rules) (search rules) returns)

@@ -1,5 +1,5 @@
 -- `preempt` meets its contract, by cases on whether the facility is seized.
-use Rattle.machine.specs.All.{refl, needs}
+use Rattle.machine.specs.All.{refl, rules}
 use Rattle.preempt_laws.specs.Preempting.{preempt_rows}
 use Rattle.preempt.proofs.preempt.Statement.{statement}
 use Rattle.preempt.proofs.preempt.Tie as tie
@@ -36,17 +36,17 @@ pub preempt-spec : {M : Type 1} → statement M
 preempt-spec =
     tie.close
     (tie.spec
-    (search needs)
-    (search needs)
-    (search needs)
-    (search needs)
-    (search needs)
-    (search needs)
-    (search needs)
-    (search needs)
+    (search rules)
+    (search rules)
+    (search rules)
+    (search rules)
+    (search rules)
+    (search rules)
+    (search rules)
+    (search rules)
     from-seizer
-    (search needs)
-    (search needs)
-    (search needs)
-    (search needs)
+    (search rules)
+    (search rules)
+    (search rules)
+    (search rules)
     as-seize)

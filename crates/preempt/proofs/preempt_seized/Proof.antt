@@ -1,5 +1,5 @@
 -- `preempt_seized` meets its contract, by cases on the row that loses.
-use Rattle.machine.specs.All.{refl, lt-ltb, le-ltb, needs}
+use Rattle.machine.specs.All.{refl, lt-ltb, le-ltb, rules}
 use Rattle.preempt_laws.specs.Preempting.{preempt_seized}
 use Rattle.preempt.proofs.preempt_seized.Statement.{statement}
 use Rattle.preempt.proofs.preempt_seized.Tie as tie
@@ -41,15 +41,15 @@ pub preempt-seized-spec : {M : Type 1} → statement M
 preempt-seized-spec =
     tie.close
     (tie.spec
-    (search needs)
-    (search needs)
-    (search needs)
-    (search needs)
-    (search needs)
-    (search needs)
+    (search rules)
+    (search rules)
+    (search rules)
+    (search rules)
+    (search rules)
+    (search rules)
     from-loser
-    (search needs)
-    (search needs)
-    (search needs)
-    (search needs)
+    (search rules)
+    (search rules)
+    (search rules)
+    (search rules)
     nobody-loses)

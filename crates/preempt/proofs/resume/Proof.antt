@@ -1,5 +1,5 @@
 -- `resume` meets its contract: the steps in order. The moving row stays.
-use Rattle.machine.specs.All.{refl, ap, needs}
+use Rattle.machine.specs.All.{refl, ap, rules}
 use Rattle.moves.specs.Motion.{Moved, moved}
 use Rattle.flow_laws.specs.Sending.{to_future}
 use Rattle.preempt_laws.specs.Preempting.{resume_on, resume_rows}
@@ -9,7 +9,7 @@ use Rattle.preempt.proofs.resume.Tie as tie
 hold-units-requires : tie.Need-hold-units-requires
 unfolding resume_on to_future moved
 hold-units-requires c κs =
-    search (ap (λ (y : Moved). y.scalars.moving) c.before.before.before.before.resume-on.ensures, needs)
+    search (ap (λ (y : Moved). y.scalars.moving) c.before.before.before.before.resume-on.ensures, rules)
 
 returns : tie.Need-returns
 unfolding resume_rows moved
@@ -32,13 +32,13 @@ pub resume-spec : {M : Type 1} → statement M
 resume-spec =
     tie.close
     (tie.spec
-    (search needs)
-    (search needs)
-    (search needs)
-    (search needs)
-    (search needs)
+    (search rules)
+    (search rules)
+    (search rules)
+    (search rules)
+    (search rules)
     hold-units-requires
-    (search needs)
-    (search needs)
-    (search needs)
+    (search rules)
+    (search rules)
+    (search rules)
     returns)

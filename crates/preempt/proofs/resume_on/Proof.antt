@@ -1,6 +1,6 @@
 -- `resume_on` meets its contract: the steps in order.
 use Rattle.preempt_laws.specs.Preempting.{resume_on}
-use Rattle.machine.specs.All.{needs}
+use Rattle.machine.specs.All.{rules}
 use Rattle.preempt.proofs.resume_on.Statement.{statement}
 use Rattle.preempt.proofs.resume_on.Tie as tie
 
@@ -14,4 +14,4 @@ returns c =
     rw (← at-time.time.ensures, ← at-plus64.plus64.ensures, ← at-take-first.take-first.ensures.1) at-to-future.to-future.ensures
 
 pub resume-on-spec : {M : Type 1} → statement M
-resume-on-spec = tie.close (tie.spec (search needs) (search needs) (search needs) (search needs) (search needs) (search needs) returns)
+resume-on-spec = tie.close (tie.spec (search rules) (search rules) (search rules) (search rules) (search rules) (search rules) returns)

@@ -1,5 +1,5 @@
 -- `seized` meets its contract, by cases on who holds it.
-use Rattle.machine.specs.All.{eq-eqb, ne_eqb, needs}
+use Rattle.machine.specs.All.{eq-eqb, ne_eqb, rules}
 use Rattle.preempt_laws.specs.Preempting.{seized}
 use Rattle.preempt.proofs.seized.Statement.{statement}
 use Rattle.preempt.proofs.seized.Tie as tie
@@ -13,4 +13,4 @@ unfolding seized
 by_units c = rw (← c.before.before.preempted.ensures, eq-eqb _ 0 c.before.if1.false, ← c.in_use.ensures)
 
 pub seized-spec : {M : Type 1} → statement M
-seized-spec = tie.close (tie.spec (search needs) by-preempt (search needs) by_units)
+seized-spec = tie.close (tie.spec (search rules) by-preempt (search rules) by_units)

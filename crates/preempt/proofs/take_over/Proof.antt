@@ -1,5 +1,5 @@
 -- `take_over` meets its contract: the steps in order.
-use Rattle.machine.specs.All.{refl, needs}
+use Rattle.machine.specs.All.{refl, rules}
 use Rattle.preempt_laws.specs.Preempting.{take_over}
 use Rattle.preempt.proofs.take_over.Statement.{statement}
 use Rattle.preempt.proofs.take_over.Tie as tie
@@ -21,4 +21,4 @@ returns c =
 
 pub take-over-spec : {M : Type 1} → statement M
 take-over-spec =
-    tie.close (tie.spec (search needs) (search needs) (search needs) (search needs) (search needs) (search needs) (search needs) returns)
+    tie.close (tie.spec (search rules) (search rules) (search rules) (search rules) (search rules) (search rules) (search rules) returns)

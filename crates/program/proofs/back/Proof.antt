@@ -1,5 +1,5 @@
 -- `program::back` meets its contract: by the kind, where the back count stands.
-use Rattle.machine.specs.All.{eq-eqb, ne_eqb, needs}
+use Rattle.machine.specs.All.{eq-eqb, ne_eqb, rules}
 use Rattle.program.specs.{back_from}
 use Rattle.program.proofs.back as f
 
@@ -17,11 +17,11 @@ pub back-spec : {M : Type 1} → f.Statement.statement M
 back-spec =
     f.Tie.close
     (f.Tie.spec
-    (search needs)
-    (search needs)
-    (search needs)
-    (search needs)
-    (search needs)
-    (search needs)
+    (search rules)
+    (search rules)
+    (search rules)
+    (search rules)
+    (search rules)
+    (search rules)
     returns-tables-is-joined-wait
     returns-last)

@@ -1,5 +1,5 @@
 -- `program::block` meets its contract: a kind and its operands.
-use Rattle.machine.specs.All.{[], ◌∷◌, ◌+◌, ◌*◌, ◌≡◌, ap, ◌∙◌, arith, needs}
+use Rattle.machine.specs.All.{[], ◌∷◌, ◌+◌, ◌*◌, ◌≡◌, ap, ◌∙◌, arith, rules}
 use Rattle.program.specs.{capacities_of}
 use Rattle.program.proofs as our
 use our.Steps.{block-stop, block-kept, capacities-kept}
@@ -35,11 +35,11 @@ pub block_spec : {M : Type 1} → f.Statement.statement M
 block_spec =
     f.Tie.close
     (f.Tie.spec
-    (search needs)
-    (search needs)
-    (search needs)
-    (search needs)
-    (search needs)
+    (search rules)
+    (search rules)
+    (search rules)
+    (search rules)
+    (search rules)
     operands-requires
     returns-refused
     returns-number)

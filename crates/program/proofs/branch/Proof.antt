@@ -2,7 +2,7 @@
 use Rattle.program.proofs as our
 use our.Steps.{branch-stop, branch_kept}
 use our.branch as f
-use Rattle.machine.specs.All.{needs}
+use Rattle.machine.specs.All.{rules}
 
 returns-refused : f.Tie.Need-returns
 returns-refused c =
@@ -19,10 +19,10 @@ pub branch-spec : {M : Type 1} → f.Statement.statement M
 branch-spec =
     f.Tie.close
     (f.Tie.spec
-    (search needs)
-    (search needs)
-    (search needs)
-    (search needs)
-    (search needs)
+    (search rules)
+    (search rules)
+    (search rules)
+    (search rules)
+    (search rules)
     returns-refused
     returns-done)

@@ -2,7 +2,7 @@
 use Rattle.program.proofs as our
 use our.Steps.{compared-stop, compared-stop-2, compared-kept}
 use our.compared as f
-use Rattle.machine.specs.All.{needs}
+use Rattle.machine.specs.All.{rules}
 
 returns-refused-block-term : f.Tie.Need-returns
 returns-refused-block-term c =
@@ -30,15 +30,15 @@ pub compared-spec : {M : Type 1} → f.Statement.statement M
 compared-spec =
     f.Tie.close
     (f.Tie.spec
-    (search needs)
-    (search needs)
-    (search needs)
-    (search needs)
-    (search needs)
-    (search needs)
-    (search needs)
-    (search needs)
-    (search needs)
+    (search rules)
+    (search rules)
+    (search rules)
+    (search rules)
+    (search rules)
+    (search rules)
+    (search rules)
+    (search rules)
+    (search rules)
     returns-refused-block-term
     returns-refused-single
     returns-done)

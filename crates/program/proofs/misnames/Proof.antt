@@ -1,6 +1,6 @@
 -- `program::misnames` meets its contract: its two questions.
 use Rattle.program.specs.{misnames}
-use Rattle.machine.specs.All.{sym, ◌∙◌, needs}
+use Rattle.machine.specs.All.{sym, ◌∙◌, rules}
 use Rattle.program.proofs.misnames as f
 
 returns-names-generate : f.Tie.Need-returns
@@ -16,7 +16,7 @@ returns-last c =
 
 pub misnames-spec : {M : Type 1} → f.Statement.statement M
 misnames-spec = f.Tie.close (f.Tie.spec
-    (search needs)
+    (search rules)
     returns-names-generate
-    (search needs)
+    (search rules)
     returns-last)

@@ -1,5 +1,5 @@
 -- `program::names_generate` meets its contract: no target, or the kind that stands there.
-use Rattle.machine.specs.All.{eq-eqb, ne_eqb, needs}
+use Rattle.machine.specs.All.{eq-eqb, ne_eqb, rules}
 use Rattle.program.specs.{names_generate}
 use Rattle.program.proofs.names_generate as f
 
@@ -19,10 +19,10 @@ pub names-generate-spec : {M : Type 1} → f.Statement.statement M
 names-generate-spec =
     f.Tie.close
     (f.Tie.spec
-    (search needs)
-    (search needs)
+    (search rules)
+    (search rules)
     returns-t-is-0
-    (search needs)
-    (search needs)
-    (search needs)
+    (search rules)
+    (search rules)
+    (search rules)
     returns-last)

@@ -1,5 +1,5 @@
 -- `program::names_inside` meets its contract: no target, or what is asked of it.
-use Rattle.machine.specs.All.{eq-eqb, ne_eqb, needs}
+use Rattle.machine.specs.All.{eq-eqb, ne_eqb, rules}
 use Rattle.program.specs.{names_inside}
 use Rattle.program.proofs.names_inside as f
 
@@ -16,8 +16,8 @@ returns-last c =
 
 pub names-inside-spec : {M : Type 1} → f.Statement.statement M
 names-inside-spec = f.Tie.close (f.Tie.spec
-    (search needs)
-    (search needs)
+    (search rules)
+    (search rules)
     returns-t-is-0
-    (search needs)
+    (search rules)
     returns-last)

@@ -1,5 +1,5 @@
 -- `program::reaches` meets its contract: past the last block, or by the back count there.
-use Rattle.machine.specs.All.{lt-ltb, le-ltb, needs}
+use Rattle.machine.specs.All.{lt-ltb, le-ltb, rules}
 use Rattle.program.specs.{reaches_from}
 use Rattle.program.proofs.reaches as f
 
@@ -15,9 +15,9 @@ returns-last c =
 
 pub reaches-spec : {M : Type 1} → f.Statement.statement M
 reaches-spec = f.Tie.close (f.Tie.spec
-    (search needs)
-    (search needs)
+    (search rules)
+    (search rules)
     returns-b-at-least-blocks
-    (search needs)
-    (search needs)
+    (search rules)
+    (search rules)
     returns-last)

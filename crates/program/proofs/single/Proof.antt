@@ -2,7 +2,7 @@
 use Rattle.program.proofs as our
 use our.Steps.{single-refused, single-read}
 use our.single as f
-use Rattle.machine.specs.All.{needs}
+use Rattle.machine.specs.All.{rules}
 
 returns-refused : f.Tie.Need-returns
 returns-refused c =
@@ -16,8 +16,8 @@ returns-number c =
 
 pub single-spec : {M : Type 1} → f.Statement.statement M
 single-spec = f.Tie.close (f.Tie.spec
-    (search needs)
-    (search needs)
-    (search needs)
+    (search rules)
+    (search rules)
+    (search rules)
     returns-refused
     returns-number)

@@ -1,5 +1,5 @@
 -- `program::target` meets its contract: by the kind, where the target stands.
-use Rattle.machine.specs.All.{eq-eqb, ne_eqb, needs}
+use Rattle.machine.specs.All.{eq-eqb, ne_eqb, rules}
 use Rattle.program.specs.{target_from}
 use Rattle.program.proofs.target as f
 
@@ -31,19 +31,19 @@ pub target-spec : {M : Type 1} → f.Statement.statement M
 target-spec =
     f.Tie.close
     (f.Tie.spec
-    (search needs)
-    (search needs)
-    (search needs)
-    (search needs)
-    (search needs)
-    (search needs)
+    (search rules)
+    (search rules)
+    (search rules)
+    (search rules)
+    (search rules)
+    (search rules)
     returns-kind-is-branch
-    (search needs)
-    (search needs)
-    (search needs)
+    (search rules)
+    (search rules)
+    (search rules)
     returns-kind-is-goto
-    (search needs)
-    (search needs)
-    (search needs)
+    (search rules)
+    (search rules)
+    (search rules)
     returns-kind-is-split
     returns-last)

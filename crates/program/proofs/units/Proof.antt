@@ -1,5 +1,5 @@
 -- `program::units` meets its contract: a storage, and units up to the capacity that stands in the tables.
-use Rattle.machine.specs.All.{arith, needs}
+use Rattle.machine.specs.All.{arith, rules}
 use Rattle.program.proofs as our
 use our.Steps.{units-stop, units-kept}
 use our.units as f
@@ -51,16 +51,16 @@ pub units-spec : {M : Type 1} → f.Statement.statement M
 units-spec =
     f.Tie.close
     (f.Tie.spec
-    (search needs)
-    (search needs)
-    (search needs)
-    (search needs)
+    (search rules)
+    (search rules)
+    (search rules)
+    (search rules)
     sub_wide
     add-wide-2
     mul_wide
     element-copy-out-wide
-    (search needs)
-    (search needs)
-    (search needs)
+    (search rules)
+    (search rules)
+    (search rules)
     returns-refused
     returns-number)

@@ -2,7 +2,7 @@
 use Rattle.program.proofs as our
 use our.Steps.{watched-stop, watched-facility, watched-storage}
 use our.watched as f
-use Rattle.machine.specs.All.{needs}
+use Rattle.machine.specs.All.{rules}
 
 returns-refused : f.Tie.Need-returns
 returns-refused c =
@@ -27,13 +27,13 @@ pub watched-spec : {M : Type 1} → f.Statement.statement M
 watched-spec =
     f.Tie.close
     (f.Tie.spec
-    (search needs)
-    (search needs)
-    (search needs)
-    (search needs)
-    (search needs)
+    (search rules)
+    (search rules)
+    (search rules)
+    (search rules)
+    (search rules)
     returns-refused
-    (search needs)
-    (search needs)
+    (search rules)
+    (search rules)
     returns-code-at-most-2
     returns-number)

@@ -3,7 +3,7 @@
 use Rattle.program.proofs as our
 use our.Question.{placed-all, Placed-end, placed-bad, placed-next}
 use our.well_placed as f
-use Rattle.machine.specs.All.{needs, ◌*◌, ◌-◌, ◌≤◌, arith, true, ◌≡◌, ◌∙◌}
+use Rattle.machine.specs.All.{rules, ◌*◌, ◌-◌, ◌≤◌, arith, true, ◌≡◌, ◌∙◌}
 use Rattle.program.specs.{placed_from}
 
 abbrev Inv-loop : f.Tie.InvT-loop
@@ -42,9 +42,9 @@ well-placed-spec =
     (omega arith)
     (omega arith)
     (omega arith)
-    (search needs)
+    (search rules)
     returns-misplaced
-    (search needs)
+    (search rules)
     (omega arith)
     (omega arith)
     loop-again

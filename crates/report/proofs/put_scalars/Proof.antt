@@ -1,5 +1,5 @@
 -- `put_scalars` meets its contract: three numbers in order.
-use Rattle.machine.specs.All.{ap, ◌∙◌, needs}
+use Rattle.machine.specs.All.{ap, ◌∙◌, rules}
 use Rattle.report_laws.specs.Writing.{put, put_all}
 use Rattle.report.proofs.put_scalars as f
 
@@ -16,10 +16,10 @@ pub put-scalars-spec : {M : Type 1} → f.Statement.statement M
 put-scalars-spec =
     f.Tie.close
     (f.Tie.spec
-    (search needs)
-    (search needs)
-    (search needs)
-    (search needs)
-    (search needs)
-    (search needs)
+    (search rules)
+    (search rules)
+    (search rules)
+    (search rules)
+    (search rules)
+    (search rules)
     returns)

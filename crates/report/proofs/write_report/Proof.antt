@@ -1,5 +1,5 @@
 -- `write_report` meets its contract: the parts of the report in order.
-use Rattle.machine.specs.All.{sym, ap, ◌∙◌, needs, arith}
+use Rattle.machine.specs.All.{sym, ap, ◌∙◌, rules, arith}
 use Rattle.report_laws.specs.{Writing.put_all, Numbers.row_numbers}
 use Rattle.report_laws.proofs.Writes.{put_all-parts}
 use Rattle.report.proofs.write_report as f
@@ -48,14 +48,14 @@ pub write-report-spec : {M : Type 1} → f.Statement.statement M
 write-report-spec =
     f.Tie.close
     (f.Tie.spec
-    (search needs)
-    (search needs)
-    (search needs)
+    (search rules)
+    (search rules)
+    (search rules)
     add-servers
-    (search needs)
-    (search needs)
+    (search rules)
+    (search rules)
     put-servers-requires
     put-queues-requires
-    (search needs)
-    (search needs)
+    (search rules)
+    (search rules)
     returns)

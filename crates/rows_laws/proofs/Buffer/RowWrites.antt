@@ -2,8 +2,8 @@
 use Rattle.machine.specs.All.{ℕ, ◌≤◌, ◌<◌, ◌≡◌, sym, ap, ◌∙◌, ◌≢◌, List, map, arith, Transaction, Event}
 use Rattle.rows_laws.specs.All.{data_fields, place, fel, list_count, slots, load, write, transaction_at, event_at, same, occurs, Listed, Holds, Shown, Loose}
 use Rattle.rows_laws.proofs as our
-use our.{buffer.Store.length-store, buffer.Store.load-other, counting.Occurs.same-other, chains.Chain.chain-moved, heap.Slots.sooner-rows, heap.StaysHeap.Unread, heap.StaysHeap.heaped-kept}
-use our.buffer.RowData.{SameRow, transaction-kept, event-kept, map-kept}
+use our.{Buffer.Store.length-store, Buffer.Store.load-other, Counting.Occurs.same-other, Chains.Chain.chain-moved, Heap.Slots.sooner-rows, Heap.StaysHeap.Unread, Heap.StaysHeap.heaped-kept}
+use our.Buffer.RowData.{SameRow, transaction-kept, event-kept, map-kept}
 use lib.ListN.{length}
 use Rattle.rows_laws.specs.Layout.{slot, link, head, tail, field_at}
 

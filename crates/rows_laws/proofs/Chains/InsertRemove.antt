@@ -3,10 +3,10 @@
 use Rattle.machine.specs.All.{ℕ, ◌<◌, ◌≡◌, ◌≢◌, List, ◌∷◌, ◌++◌, arith, lt-ltb}
 use Rattle.rows_laws.specs.All.{place, head, fel, nowhere, list_count, tails, load, insert_at, remove_row, remove_at, ending, Listed, Holds, update}
 use Rattle.rows_laws.proofs as our
-use our.chains.StructuralLaw.{Changed, End-low, end-high}
-use our.chains.CellChanges.{insert-room, insert-place, remove-room, remove-place}
-use our.chains.ListChanges.{insert-changed, insert-listed, remove-changed, remove-listed, removed-row, apart}
-use our.buffer.RowData.{SameData}
+use our.Chains.StructuralLaw.{Changed, End-low, end-high}
+use our.Chains.CellChanges.{insert-room, insert-place, remove-room, remove-place}
+use our.Chains.ListChanges.{insert-changed, insert-listed, remove-changed, remove-listed, removed-row, apart}
+use our.Buffer.RowData.{SameData}
 
 -- what an operation that moves row k leaves: the data of all rows, and the places of the others
 pub record Kept (w w' : List ℕ) (k : ℕ) : Type 0 where

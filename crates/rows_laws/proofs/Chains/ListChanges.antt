@@ -2,10 +2,10 @@
 use Rattle.machine.specs.All.{ℕ, ◌+◌, ◌≤◌, ◌<◌, ◌≡◌, refl, sym, ap, ◌∙◌, ◌≢◌, List, [], ◌∷◌, ◌++◌, arith, ℕ_discrete, length}
 use Rattle.rows_laws.specs.All.{place, link, head, tail, fel, nowhere, links, list_count, tails, load, insert_at, remove_row, same, occurs, Chain, ending, Listed, update}
 use Rattle.rows_laws.proofs as our
-use our.counting.Occurs.{same_refl, same-other, occurs-append, occurs-cons}
-use our.chains.Chain.{chain-moved, chain-after, ending-append}
-use our.chains.StructuralLaw.{Changed, structure, row_of, at-most-once, End-low, end-high, end-not-link}
-use our.chains.CellChanges
+use our.Counting.Occurs.{same_refl, same-other, occurs-append, occurs-cons}
+use our.Chains.Chain.{chain-moved, chain-after, ending-append}
+use our.Chains.StructuralLaw.{Changed, structure, row_of, at-most-once, End-low, end-high, end-not-link}
+use our.Chains.CellChanges
 use mathlib.Core.Path.{subst}
 
 module _ (w : List ℕ) (p k : ℕ) (a b : List ℕ) (room : 16384 ≤ length w) (hp : p < list_count) (chained : p ≢ fel) (hk : k < 1024) where

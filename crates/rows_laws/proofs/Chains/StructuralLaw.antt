@@ -3,9 +3,9 @@
 use Rattle.machine.specs.All.{ℕ, zero, suc, ◌≤◌, ◌<◌, ◌≡◌, refl, sym, ap, ◌∙◌, subst, ◌≢◌, Bool, true, false, cond, List, ◌++◌, arith, ℕ_discrete, eqb-true, eqb-false, eqb, length}
 use Rattle.rows_laws.specs.All.{place, link, head, tail, fel, links, list_count, load, same, occurs, Chain, ending, Listed, update}
 use Rattle.rows_laws.proofs as our
-use our.counting.Occurs.{same-other, same_pos, same-le, occurs-append}
-use our.{buffer.RowData.SameData, heap.Slots.sooner-kept, placing.Spot.short, heap.StaysHeap.Unread, heap.StaysHeap.heaped-kept}
-use our.chains.Chain.{chain-moved, chain-joined, ending-append, EndsAt, start, behind, ends}
+use our.Counting.Occurs.{same-other, same_pos, same-le, occurs-append}
+use our.{Buffer.RowData.SameData, Heap.Slots.sooner-kept, Placing.Spot.short, Heap.StaysHeap.Unread, Heap.StaysHeap.heaped-kept}
+use our.Chains.Chain.{chain-moved, chain-joined, ending-append, EndsAt, start, behind, ends}
 use Rattle.rows_laws.specs.Layout.{slot}
 
 -- what changed: list p from a ++ b to a ++ b', with row k going from place o to place o'

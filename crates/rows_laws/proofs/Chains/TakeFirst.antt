@@ -2,8 +2,8 @@
 use Rattle.machine.specs.All.{ℕ, ◌≤◌, ◌<◌, ◌≡◌, refl, sym, ap, ◌∙◌, ◌≢◌, List, [], ◌∷◌, map, arith, drop, Transaction, Event}
 use Rattle.rows_laws.specs.All.{head, fel, free, list_count, first, take_first, transaction_at, Chain, ending, Listed, Holds, update, Shown, Loose}
 use Rattle.rows_laws.proofs as our
-use our.chains.InsertRemove.{Kept, remove-holds, remove-keeps, remove-placed}
-use our.chains.Showing.{shown-list, shown-free}
+use our.Chains.InsertRemove.{Kept, remove-holds, remove-keeps, remove-placed}
+use our.Chains.Showing.{shown-list, shown-free}
 use mathlib.Core.Path.{subst}
 
 -- ---- Rows

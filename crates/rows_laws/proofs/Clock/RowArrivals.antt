@@ -2,12 +2,12 @@
 use Rattle.machine.specs.All.{ℕ, zero, suc, ◌+◌, ◌≤◌, ◌<◌, ◌≡◌, refl, sym, ap, ◌∙◌, subst, Bool, true, false, cond, not, List, [], ◌∷◌, map, arith, lt-ltb, le-ltb, eqb-true, eqb, length, get_or, drop, Transaction, Event, precedes, earlier, with_serial, with_returning, insert, those, others, due}
 use Rattle.rows_laws.specs.All.{place, rel, fel, list_count, load, write, set_returning, outranks, first, cancel, is_due, arrive_row, arrive_first, Arrived, arrived, arrive, arrivals, transaction_at, event_at, update, Sorted, Strict, Shown, Held, Loose}
 use Rattle.rows_laws.proofs as our
-use our.order.SortedInsertion.{insert-sorted, strict-sorted, sorted-drop}
-use our.{order.RowOrders.precedes-order, order.RowOrders.earlier-order, counting.Occurs.same_refl, counting.Occurs.occurs-cons, chains.StructuralLaw.row_of, placing.Spot.short, buffer.RowData.same_row, buffer.RowData.transaction-kept, chains.InsertRemove.Kept, chains.Showing.shown_ext, heap.Scheduling.cancel-keeps, heap.Scheduling.cancel-placed, heap.FutureEvents.first-fel, heap.FutureEvents.cancel-shown, buffer.RowWrites.write-shown, buffer.RowWrites.write-loose, buffer.FieldWrites.set-returning, buffer.FieldWrites.write-serial, Steps.arrive-stop}
-use our.placing.Put.{put-shown, put_Keeps, put-placed}
-use our.chains.TakeFirst.{First, none, some}
-use our.life.LooseRowsStay.{Steady, steady_refl, steady_trans, around_trans, kept-around, write-around, around-steady}
-use our.clock.MachineArrivals.{run, left, run_is, left_is}
+use our.Order.SortedInsertion.{insert-sorted, strict-sorted, sorted-drop}
+use our.{Order.RowOrders.precedes-order, Order.RowOrders.earlier-order, Counting.Occurs.same_refl, Counting.Occurs.occurs-cons, Chains.StructuralLaw.row_of, Placing.Spot.short, Buffer.RowData.same_row, Buffer.RowData.transaction-kept, Chains.InsertRemove.Kept, Chains.Showing.shown_ext, Heap.Scheduling.cancel-keeps, Heap.Scheduling.cancel-placed, Heap.FutureEvents.first-fel, Heap.FutureEvents.cancel-shown, Buffer.RowWrites.write-shown, Buffer.RowWrites.write-loose, Buffer.FieldWrites.set-returning, Buffer.FieldWrites.write-serial, Steps.arrive-stop}
+use our.Placing.Put.{put-shown, put_Keeps, put-placed}
+use our.Chains.TakeFirst.{First, none, some}
+use our.Life.LooseRowsStay.{Steady, steady_refl, steady_trans, around_trans, kept-around, write-around, around-steady}
+use our.Clock.MachineArrivals.{run, left, run_is, left_is}
 use Prim.Native.Nat.{◌*◌, ◌/◌}
 use Rattle.rows_laws.specs.Cells.{read}
 use Rattle.rows_laws.specs.Lists.{put}

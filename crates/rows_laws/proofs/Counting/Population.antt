@@ -2,9 +2,9 @@
 use Rattle.machine.specs.All.{ℕ, zero, suc, ◌+◌, ◌≤◌, ◌<◌, ◌≡◌, refl, sym, ap, ◌∙◌, Bool, true, false, cond, List, arith, ℕ_discrete, lt-ltb, le-ltb, ltb-true, ltb-false, ltb, length, length-map, Transaction, Event}
 use Rattle.rows_laws.specs.All.{place, fel, free, list_count, load, first, sum_to, loose, on_lists, same, occurs, Holds, Shown}
 use Rattle.rows_laws.proofs as our
-use our.{counting.Occurs.same_refl, counting.Occurs.same-other, placing.Spot.listed-length, life.LooseRowsStay.Steady}
-use our.counting.Sums.{sum-suc, sum_ext, sum-add, sum-zero, sum_ones}
-use our.chains.TakeFirst.{First, none, some, first_of}
+use our.{Counting.Occurs.same_refl, Counting.Occurs.same-other, Placing.Spot.listed-length, Life.LooseRowsStay.Steady}
+use our.Counting.Sums.{sum-suc, sum_ext, sum-add, sum-zero, sum_ones}
+use our.Chains.TakeFirst.{First, none, some, first_of}
 use Rattle.rows_laws.specs.Holds.{transaction_at, event_at}
 
 -- 1 for a place among the first m lists

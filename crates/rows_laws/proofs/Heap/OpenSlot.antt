@@ -2,8 +2,8 @@
 use Rattle.machine.specs.All.{ℕ, ◌≤◌, ◌<◌, ◌≡◌, refl, sym, ap, ◌∙◌, ◌≢◌, Bool, true, false, List, arith, ℕ_discrete, length}
 use Rattle.rows_laws.specs.All.{slot, place, link, fel, load, up, settle}
 use Rattle.rows_laws.proofs as our
-use our.order.SortedInsertion.{Order, before-none, not-before}
-use our.heap.Slots.{up-less, settle-length, settle_other, settle-slot, settle-link}
+use our.Order.SortedInsertion.{Order, before-none, not-before}
+use our.Heap.Slots.{up-less, settle-length, settle_other, settle-slot, settle-link}
 use mathlib.Core.Path.{subst}
 
 -- ---- Definition

@@ -2,10 +2,10 @@
 use Rattle.machine.specs.All.{ℕ, zero, suc, ◌+◌, ◌*◌, ◌≤◌, ◌<◌, ◌≡◌, refl, sym, ap, ◌∙◌, ◌≢◌, Bool, true, false, cond, List, arith, ℕ_discrete, lt-ltb, le-ltb, eq-eqb, ne_eqb, ltb-true, ltb-false, ltb}
 use Rattle.rows_laws.specs.All.{slot, load, time_of, sooner_at, sooner, up, settle, above, rise, sooner_of, below, sink}
 use Rattle.rows_laws.proofs as our
-use our.{order.SortedInsertion.Order, buffer.RowData.SameData}
-use our.heap.Slots.{up-less, up_left, up_right, Below, left, right, below_of, pull-row, Sifted, sifted_data, sifted_trans, settle-sifted, sooner-kept, time-kept}
+use our.{Order.SortedInsertion.Order, Buffer.RowData.SameData}
+use our.Heap.Slots.{up-less, up_left, up_right, Below, left, right, below_of, pull-row, Sifted, sifted_data, sifted_trans, settle-sifted, sooner-kept, time-kept}
 use our.Steps.{rise-end, rise-stop, rise-next, sink-stop, sink-next}
-use our.heap.OpenSlot.{Open, Under, Full, risen, risen-under, sunk, filled}
+use our.Heap.OpenSlot.{Open, Under, Full, risen, risen-under, sunk, filled}
 use Rattle.rows_laws.proofs.Heap.OpenSlot.{Seat}
 
 -- ---- One step

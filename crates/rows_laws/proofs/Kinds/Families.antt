@@ -2,10 +2,10 @@
 use Rattle.machine.specs.All.{ℕ, ◌+◌, ◌≤◌, ◌<◌, ◌≡◌, refl, ap, ◌∙◌, ◌≢◌, Bool, true, false, cond, List, [], ◌∷◌, ◌++◌, map, map-append, arith, eqb-true, eqb-false, eqb, Transaction, Event, precedes, with_next, insert}
 use Rattle.rows_laws.specs.All.{list_count, place, head, rel, fel, field_at, load, read, write, remove_at, put, in_family, family_cell, transaction_at, event_at, occurs, ending, Listed, Holds, update, All, Sorted, order_of, Shows, moved}
 use Rattle.rows_laws.proofs as our
-use our.{buffer.Store.load-other, order.SortedInsertion.sorted-without, placing.FirstThatPasses.Found, placing.FirstThatPasses.found, order.StayInOrder.ordered-list, chains.StructuralLaw.row_of, buffer.FieldWrites.write-next, chains.InsertRemove.remove-holds, chains.InsertRemove.remove-keeps, chains.Showing.shown-list, chains.Showing.update_other, buffer.RowWrites.row_other, buffer.RowWrites.write-holds, placing.Put.put-placed, life.Making.Written}
-use our.counting.Occurs.{same_refl, same-other, same-le, occurs-append, occurs-cons}
-use our.buffer.RowData.{transaction-kept, event-kept, map-kept}
-use our.life.LooseRowsStay.{around_trans, write-around, around-steady}
+use our.{Buffer.Store.load-other, Order.SortedInsertion.sorted-without, Placing.FirstThatPasses.Found, Placing.FirstThatPasses.found, Order.StayInOrder.ordered-list, Chains.StructuralLaw.row_of, Buffer.FieldWrites.write-next, Chains.InsertRemove.remove-holds, Chains.InsertRemove.remove-keeps, Chains.Showing.shown-list, Chains.Showing.update_other, Buffer.RowWrites.row_other, Buffer.RowWrites.write-holds, Placing.Put.put-placed, Life.Making.Written}
+use our.Counting.Occurs.{same_refl, same-other, same-le, occurs-append, occurs-cons}
+use our.Buffer.RowData.{transaction-kept, event-kept, map-kept}
+use our.Life.LooseRowsStay.{around_trans, write-around, around-steady}
 use our.Laws.{Wakes, Takes, Puts, takes, put-shows}
 use mathlib.Core.Path.{sym, subst}
 

@@ -2,11 +2,11 @@
 use Rattle.machine.specs.All.{ℕ, zero, suc, ◌+◌, ◌≤◌, ◌<◌, ◌≡◌, refl, sym, ap, ◌∙◌, subst, Bool, true, false, cond, not, true≢false, List, [], ◌∷◌, ◌++◌, map, arith, ℕ_discrete, lt-ltb, ltb-true, ltb-false, eq-eqb, eqb-true, eqb-false, not-false, ltb, eqb, length, drop, Transaction, Event, precedes, earlier, insert}
 use Rattle.rows_laws.specs.All.{list_count, number_field, slot, place, holder_cell, fel, free, load, store, read, priority_of, sooner, put, first, take_first, schedule, cancel, loses, sooner_row, loser_of, loser_from, loser, keep_holder, is_holder, loser_at, find_loser, transaction_at, event_at, occurs, Heaped, Listed, Holds, update, All, Sorted, Strict, loose, Shows}
 use Rattle.rows_laws.proofs as our
-use our.counting.Occurs.{same_refl, same_pos, occurs-append, occurs-cons}
-use our.order.SortedInsertion.{not-both, before-none, All-append, front}
+use our.Counting.Occurs.{same_refl, same_pos, occurs-append, occurs-cons}
+use our.Order.SortedInsertion.{not-both, before-none, All-append, front}
 use our.Steps.{loser-end, loser-stop, loser-next, Holder, holder-of}
-use our.{chains.StructuralLaw.row_of, placing.Spot.short, placing.Spot.Front-self, counting.Sums.sum_ext, buffer.RowData.same_row, life.LooseRowsStay.around_trans, life.LooseRowsStay.around-steady, placing.Put.put-placed, chains.TakeFirst.rows-first, life.Making.Written, heap.Scheduling.sooner-order, heap.Scheduling.schedule-placed, heap.FutureEvents.all-at, heap.FutureEvents.irreflexive}
-use our.buffer.HintsAndHolders.{aside-below, aside-shown, holder_aside}
+use our.{Chains.StructuralLaw.row_of, Placing.Spot.short, Placing.Spot.Front-self, Counting.Sums.sum_ext, Buffer.RowData.same_row, Life.LooseRowsStay.around_trans, Life.LooseRowsStay.around-steady, Placing.Put.put-placed, Chains.TakeFirst.rows-first, Life.Making.Written, Heap.Scheduling.sooner-order, Heap.Scheduling.schedule-placed, Heap.FutureEvents.all-at, Heap.FutureEvents.irreflexive}
+use our.Buffer.HintsAndHolders.{aside-below, aside-shown, holder_aside}
 use our.Laws.{Fresh, Wakes, Takes, Puts, cancels, take-shows, put-shows, schedule-shows}
 use Rattle.rows_laws.specs.Layout.{link}
 use Rattle.rows_laws.specs.Shows.{Loose}

@@ -2,9 +2,9 @@
 use Rattle.machine.specs.All.{ℕ, ◌≤◌, ◌<◌, ◌≡◌, refl, ◌∙◌, List, [], ◌∷◌, arith, length, Transaction, Event}
 use Rattle.rows_laws.specs.All.{data_fields, place, free, load, write, set_time, clear_parameters, copy_parameters, describe, newborn_at, copy_at, free_row, loose, ending, update, Shown, Loose}
 use Rattle.rows_laws.proofs as our
-use our.{buffer.Store.length-store, buffer.Store.load-other, chains.Showing.shown-free, buffer.RowWrites.write-shown, buffer.RowWrites.write-loose, counting.LooseRows.loose-kept}
-use our.chains.InsertRemove.{Kept, insert-holds, insert-keeps, insert-placed}
-use our.life.LooseRowsStay.{Around, around_trans, write-around}
+use our.{Buffer.Store.length-store, Buffer.Store.load-other, Chains.Showing.shown-free, Buffer.RowWrites.write-shown, Buffer.RowWrites.write-loose, Counting.LooseRows.loose-kept}
+use our.Chains.InsertRemove.{Kept, insert-holds, insert-keeps, insert-placed}
+use our.Life.LooseRowsStay.{Around, around_trans, write-around}
 use Prim.Native.Nat.{◌*◌, ◌/◌, ◌%◌}
 use Rattle.rows_laws.specs.Layout.{field_at}
 use Rattle.rows_laws.specs.Cells.{read}

@@ -5,8 +5,8 @@ use mir.Syntax.{w32}
 use mir.Val.{to_z}
 use Rattle.rows_laws.specs.All.{read, write, set_time, clear_parameters, copy_parameters, describe, newborn_at, copy_at, transaction_at, parameter_at}
 use Rattle.rows_laws.proofs as our
-use our.{buffer.Store.length-store, life.Making.time-written, life.Making.describe-written}
-use our.buffer.FieldWrites.{write-number, write-standing, write-parameter, write-next, write-serial, write-family, write-stamp, with_family}
+use our.{Buffer.Store.length-store, Life.Making.time-written, Life.Making.describe-written}
+use our.Buffer.FieldWrites.{write-number, write-standing, write-parameter, write-next, write-serial, write-family, write-stamp, with_family}
 use Rattle.rows_laws.specs.Layout.{field_at}
 use Rattle.rows_laws.proofs.Life.Making.{Written}
 

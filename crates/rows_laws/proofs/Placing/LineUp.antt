@@ -3,11 +3,11 @@ use Rattle.machine.specs.All.{ℕ, zero, suc, ◌-◌, ◌%◌, ◌≤◌, ◌<�
 use Rattle.machine.specs.Moves as Moves
 use Rattle.rows_laws.specs.All.{fel, place, link, links, head, heads, load, read, outranks, insert_at, put, at_least, found_at, last_cell, last_meets, back_before, back_spot, second_spot, line_up, transaction_at, Chain, ending, Listed, Holds, update, All, Sorted, Shown, Loose}
 use Rattle.rows_laws.proofs as our
-use our.order.SortedInsertion.{map-insert, append-all, last_of}
-use our.{order.RowOrders.outranks-is, placing.WalkSteps.last_cell-stop, placing.WalkSteps.last_cell-next, chains.Chain.ending-append, chains.Showing.shown-list}
-use our.placing.Spot.{short, ending-last, occurs-last}
-use our.placing.Put.{put_Keeps, put-placed, put-shown}
-use our.chains.InsertRemove.{Kept, insert-holds, insert-keeps, insert-placed}
+use our.Order.SortedInsertion.{map-insert, append-all, last_of}
+use our.{Order.RowOrders.outranks-is, Placing.WalkSteps.last_cell-stop, Placing.WalkSteps.last_cell-next, Chains.Chain.ending-append, Chains.Showing.shown-list}
+use our.Placing.Spot.{short, ending-last, occurs-last}
+use our.Placing.Put.{put_Keeps, put-placed, put-shown}
+use our.Chains.InsertRemove.{Kept, insert-holds, insert-keeps, insert-placed}
 use mathlib.Core.Path.{subst}
 use Rattle.rows_laws.specs.Layout.{tail}
 

@@ -3,11 +3,11 @@
 use Rattle.machine.specs.All.{ℕ, zero, suc, ◌-◌, ◌≤◌, ◌<◌, ◌≡◌, refl, sym, ap, ◌∙◌, subst, ◌≢◌, Bool, true, false, cond, List, [], ◌∷◌, ◌++◌, append-nil, append_assoc, arith, lt-ltb, le-ltb, ltb-true, eqb-true, eqb-false, ltb, eqb, length, length-append}
 use Rattle.rows_laws.specs.All.{place, link, head, fel, heads, links, load, step, walk, begin, hinted, spot_before, spot, same, occurs, Chain, ending, Listed, All, Sorted, sum_to}
 use Rattle.rows_laws.proofs as our
-use our.counting.Occurs.{same_refl, same-other, same-le}
-use our.counting.Sums.{sum-add, sum_same, sum-le, sum-zero}
-use our.chains.Chain.{chain-after, ending-append}
-use our.placing.WalkSteps.{walk-next, walk-stay}
-use our.order.SortedInsertion.{Order, All-append, front, back, front-back, front-all, last_of, not-before}
+use our.Counting.Occurs.{same_refl, same-other, same-le}
+use our.Counting.Sums.{sum-add, sum_same, sum-le, sum-zero}
+use our.Chains.Chain.{chain-after, ending-append}
+use our.Placing.WalkSteps.{walk-next, walk-stay}
+use our.Order.SortedInsertion.{Order, All-append, front, back, front-back, front-all, last_of, not-before}
 
 -- ---- No list is longer than 1,024
 

@@ -4,11 +4,11 @@ use Rattle.machine.specs.All.{ℕ, zero, suc, ◌≤◌, ◌<◌, ◌≡◌, ref
 use Rattle.machine.proofs.NobodyAble.QueueRemove.{walk, walk-fixed}
 use Rattle.rows_laws.specs.All.{link, head, rel, first, wake_at, wake_first, after, pass_rows, pass_cell, wake_walk, wake_all, transaction_at, Chain, ending, Sorted, Shown, Held, moved}
 use Rattle.rows_laws.proofs as our
-use our.{counting.Occurs.occurs-append, chains.Chain.chain-after, chains.Chain.ending-append, chains.Showing.shown_ext}
+use our.{Counting.Occurs.occurs-append, Chains.Chain.chain-after, Chains.Chain.ending-append, Chains.Showing.shown_ext}
 use our.Steps.{wake_walk-stop, wake_walk-next, wake_all-walk}
-use our.chains.TakeFirst.{First, none, some, first_of}
-use our.life.LooseRowsStay.{Steady, steady_refl, steady_trans}
-use our.waking.WakeOne.{woken, wake-rows, wake-shown, wake-ready, wake-steady, wake-same}
+use our.Chains.TakeFirst.{First, none, some, first_of}
+use our.Life.LooseRowsStay.{Steady, steady_refl, steady_trans}
+use our.Waking.WakeOne.{woken, wake-rows, wake-shown, wake-ready, wake-steady, wake-same}
 use mathlib.Core.Path.{subst}
 use Rattle.rows_laws.specs.Holds.{Listed}
 

@@ -3,13 +3,13 @@
 use Rattle.machine.specs.All.{ℕ, ◌≤◌, ◌<◌, ◌≡◌, refl, ap, ◌∙◌, subst, ◌≢◌, true, List, ◌∷◌, ◌++◌, map, arith, lt-ltb, Transaction, Event, precedes, with_returning, insert}
 use Rattle.rows_laws.specs.All.{place, head, rel, fel, list_count, load, set_returning, outranks, remove_at, wake_row, wake_at, transaction_at, same, occurs, ending, Listed, update, Sorted, Shown, Loose, moved}
 use Rattle.rows_laws.proofs as our
-use our.{order.SortedInsertion.insert-sorted, order.RowOrders.precedes-order, chains.StructuralLaw.row_of, chains.StructuralLaw.at-most-once, buffer.RowWrites.write-shown, buffer.RowWrites.write-loose, buffer.FieldWrites.set-returning}
-use our.counting.Occurs.{same_refl, occurs-append, occurs-cons}
-use our.buffer.RowData.{same_row, transaction-kept, map-kept}
-use our.chains.InsertRemove.{Kept, remove-IsFirst, remove-holds, remove-keeps, remove-placed}
-use our.chains.Showing.{shown-list, shown_ext, update_same, update_other}
-use our.placing.Put.{put-shown, put_Keeps, put-placed}
-use our.life.LooseRowsStay.{Steady, Around, around_trans, kept-around, write-around, around-steady}
+use our.{Order.SortedInsertion.insert-sorted, Order.RowOrders.precedes-order, Chains.StructuralLaw.row_of, Chains.StructuralLaw.at-most-once, Buffer.RowWrites.write-shown, Buffer.RowWrites.write-loose, Buffer.FieldWrites.set-returning}
+use our.Counting.Occurs.{same_refl, occurs-append, occurs-cons}
+use our.Buffer.RowData.{same_row, transaction-kept, map-kept}
+use our.Chains.InsertRemove.{Kept, remove-IsFirst, remove-holds, remove-keeps, remove-placed}
+use our.Chains.Showing.{shown-list, shown_ext, update_same, update_other}
+use our.Placing.Put.{put-shown, put_Keeps, put-placed}
+use our.Life.LooseRowsStay.{Steady, Around, around_trans, kept-around, write-around, around-steady}
 use Prim.Native.Nat.{◌+◌, ◌*◌, ◌/◌}
 use Rattle.rows_laws.specs.Cells.{read}
 use Rattle.rows_laws.specs.Lists.{put}

@@ -3,14 +3,14 @@
 use Rattle.machine.specs.All.{ℕ, zero, suc, ◌+◌, ◌*◌, ◌-◌, ◌/◌, ◌%◌, ◌≤◌, ◌<◌, ◌≡◌, refl, sym, ap, ◌∙◌, subst, ◌≢◌, Bool, true, false, cond, List, [], ◌∷◌, ◌++◌, map, map-append, map-map, append-nil, arith, ℕ_discrete, eq-eqb, ne_eqb, eqb-true, eqb-false, ltb, eqb, length, Transaction, Event, precedes, with_returning, wake}
 use Rattle.rows_laws.specs.All.{place, link, head, tail, wsl, rel, fel, free, links, heads, list_count, data_fields, field_at, load, read, store, time_of, outranks, first, empty_list, ready_place, ready_standing, end_at, end_ready, join_at, join_ready, transaction_at, event_at, same, occurs, Chain, ending, Listed, Holds, update, Sorted, loose, Shown, Shows, Loose, order_of, moved}
 use Rattle.rows_laws.proofs as our
-use our.buffer.Store.{length-store, load_same, load-other}
-use our.chains.CellChanges.{length-end_at, load-end_at, end_at-row, end_at-none}
-use our.counting.Occurs.{same_refl, same-other, occurs-append}
-use our.{order.SortedInsertion.last_of, order.RowOrders.outranks-is, waking.SortedJoin.Leads, waking.SortedJoin.wake-before, waking.ReadyRows.Readied, chains.StructuralLaw.row_of, chains.StructuralLaw.at-most-once, placing.Spot.short, heap.Slots.sooner-rows, heap.StaysHeap.Unread, heap.StaysHeap.heaped-kept, chains.Showing.update_other, counting.Sums.sum_ext, counting.LooseRows.off, counting.LooseRows.off-placed, life.LooseRowsStay.Steady, Laws.Wakes}
-use our.chains.Chain.{EndsAt, start, behind, ends, chain-moved, chain-joined, ending-append}
-use our.buffer.RowData.{SameRow, transaction-kept, event-kept, map-kept}
-use our.chains.TakeFirst.{First, none, some, first_of, rows-first}
-use our.order.StayInOrder.{sorted-line, ordered-moved, wake-sorted}
+use our.Buffer.Store.{length-store, load_same, load-other}
+use our.Chains.CellChanges.{length-end_at, load-end_at, end_at-row, end_at-none}
+use our.Counting.Occurs.{same_refl, same-other, occurs-append}
+use our.{Order.SortedInsertion.last_of, Order.RowOrders.outranks-is, Waking.SortedJoin.Leads, Waking.SortedJoin.wake-before, Waking.ReadyRows.Readied, Chains.StructuralLaw.row_of, Chains.StructuralLaw.at-most-once, Placing.Spot.short, Heap.Slots.sooner-rows, Heap.StaysHeap.Unread, Heap.StaysHeap.heaped-kept, Chains.Showing.update_other, Counting.Sums.sum_ext, Counting.LooseRows.off, Counting.LooseRows.off-placed, Life.LooseRowsStay.Steady, Laws.Wakes}
+use our.Chains.Chain.{EndsAt, start, behind, ends, chain-moved, chain-joined, ending-append}
+use our.Buffer.RowData.{SameRow, transaction-kept, event-kept, map-kept}
+use our.Chains.TakeFirst.{First, none, some, first_of, rows-first}
+use our.Order.StayInOrder.{sorted-line, ordered-moved, wake-sorted}
 
 -- ---- The numbers after chains are joined
 

@@ -1,5 +1,5 @@
 -- `main` is safe: what was read of each file is within its buffer.
-use Rattle.machine.specs.All.{needs}
+use Rattle.machine.specs.All.{rules}
 use Rattle.runmodel.proofs.main as f
 
 array-share-prefix-model : f.Tie.Need-array-share-prefix-model
@@ -30,26 +30,26 @@ pub main_spec : {M : Type 1} → f.Statement.statement M
 main_spec =
     f.Tie.close
     (f.Tie.spec
-    (search needs)
-    (search needs)
-    (search needs)
-    (search needs)
-    (search needs)
-    (search needs)
-    (search needs)
-    (search needs)
-    (search needs)
-    (search needs)
-    (search needs)
-    (search needs)
-    (search needs)
-    (search needs)
+    (search rules)
+    (search rules)
+    (search rules)
+    (search rules)
+    (search rules)
+    (search rules)
+    (search rules)
+    (search rules)
+    (search rules)
+    (search rules)
+    (search rules)
+    (search rules)
+    (search rules)
+    (search rules)
     array-share-prefix-model
     slice-aggregate-run
     array-share-prefix-tape
     slice-aggregate-run-2
-    (search needs)
-    (search needs)
-    (search needs)
-    (search needs)
-    (search needs))
+    (search rules)
+    (search rules)
+    (search rules)
+    (search rules)
+    (search rules))

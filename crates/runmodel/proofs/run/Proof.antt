@@ -1,5 +1,5 @@
 -- `run` is safe: what was written of trace and report is within their buffers.
-use Rattle.machine.specs.All.{needs}
+use Rattle.machine.specs.All.{rules}
 use Rattle.runmodel.proofs as our
 use our.Parts.{trace-part, report-part}
 use our.run as f
@@ -28,16 +28,16 @@ pub run_spec : {M : Type 1} → f.Statement.statement M
 run_spec =
     f.Tie.close
     (f.Tie.spec
-    (search needs)
-    (search needs)
-    (search needs)
-    (search needs)
-    (search needs)
-    (search needs)
-    (search needs)
+    (search rules)
+    (search rules)
+    (search rules)
+    (search rules)
+    (search rules)
+    (search rules)
+    (search rules)
     array-share-prefix-trace
     slice-aggregate-print-accepted
     array-share-prefix-report
     slice-aggregate-print-accepted-2
-    (search needs)
-    (search needs))
+    (search rules)
+    (search rules))

@@ -1,6 +1,6 @@
 -- `begin` meets its contract: buffers and scalars, then the blocks.
 use Rattle.start.specs.{start_rows}
-use Rattle.machine.specs.All.{needs}
+use Rattle.machine.specs.All.{rules}
 use Rattle.start.proofs.begin as f
 
 returns : f.Tie.Need-returns
@@ -22,11 +22,11 @@ pub begin-spec : {M : Type 1} → f.Statement.statement M
 begin-spec =
     f.Tie.close
     (f.Tie.spec
-    (search needs)
-    (search needs)
-    (search needs)
-    (search needs)
-    (search needs)
-    (search needs)
-    (search needs)
+    (search rules)
+    (search rules)
+    (search rules)
+    (search rules)
+    (search rules)
+    (search rules)
+    (search rules)
     returns)

@@ -1,5 +1,5 @@
 -- `begin_block` meets its contract: by cases on the kind.
-use Rattle.machine.specs.All.{eq-eqb, ne_eqb, needs}
+use Rattle.machine.specs.All.{eq-eqb, ne_eqb, rules}
 use Rattle.start.specs.{begin_block}
 use Rattle.start.proofs.begin_block as f
 
@@ -19,10 +19,10 @@ pub begin-block-spec : {M : Type 1} → f.Statement.statement M
 begin-block-spec =
     f.Tie.close
     (f.Tie.spec
-    (search needs)
-    (search needs)
+    (search rules)
+    (search rules)
     returns-number-is-not-generate
-    (search needs)
-    (search needs)
-    (search needs)
+    (search rules)
+    (search rules)
+    (search rules)
     returns-last)

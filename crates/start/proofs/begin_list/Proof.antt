@@ -1,5 +1,5 @@
 -- `begin_list` meets its contract: by cases on the times left.
-use Rattle.machine.specs.All.{refl, eq-eqb, ne_eqb, needs}
+use Rattle.machine.specs.All.{refl, eq-eqb, ne_eqb, rules}
 use Rattle.state.specs.All.{rows_of}
 use Rattle.start.specs.{spent_at, priority_at, begin_list}
 use Rattle.start.proofs as our
@@ -34,20 +34,20 @@ pub begin-list-spec : {M : Type 1} → statement M
 begin-list-spec =
     tie.close
     (tie.spec
-    (search needs)
-    (search needs)
-    (search needs)
-    (search needs)
-    (search needs)
+    (search rules)
+    (search rules)
+    (search rules)
+    (search rules)
+    (search rules)
     returns-times-left-is-0
-    (search needs)
-    (search needs)
-    (search needs)
-    (search needs)
-    (search needs)
-    (search needs)
-    (search needs)
-    (search needs)
-    (search needs)
-    (search needs)
+    (search rules)
+    (search rules)
+    (search rules)
+    (search rules)
+    (search rules)
+    (search rules)
+    (search rules)
+    (search rules)
+    (search rules)
+    (search rules)
     returns-last)

@@ -1,6 +1,6 @@
 -- `begin_scalars` meets its contract: each scalar.
 use Rattle.start.specs.{start_scalars}
-use Rattle.machine.specs.All.{needs}
+use Rattle.machine.specs.All.{rules}
 use Rattle.start.proofs.begin_scalars as f
 
 returns : f.Tie.Need-returns
@@ -9,4 +9,4 @@ returns c =
     rw c.narrow.ensures
 
 pub begin-scalars-spec : {M : Type 1} → f.Statement.statement M
-begin-scalars-spec = f.Tie.close (f.Tie.spec (search needs) returns)
+begin-scalars-spec = f.Tie.close (f.Tie.spec (search rules) returns)

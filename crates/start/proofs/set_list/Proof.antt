@@ -1,6 +1,6 @@
 -- `set_list` meets its contract: its two numbers.
 use Rattle.start.specs.{list_set}
-use Rattle.machine.specs.All.{needs}
+use Rattle.machine.specs.All.{rules}
 use Rattle.start.proofs.set_list as f
 
 returns : f.Tie.Need-returns
@@ -16,12 +16,12 @@ pub set-list-spec : {M : Type 1} → f.Statement.statement M
 set-list-spec =
     f.Tie.close
     (f.Tie.spec
-    (search needs)
-    (search needs)
-    (search needs)
-    (search needs)
-    (search needs)
-    (search needs)
-    (search needs)
-    (search needs)
+    (search rules)
+    (search rules)
+    (search rules)
+    (search rules)
+    (search rules)
+    (search rules)
+    (search rules)
+    (search rules)
     returns)

@@ -1,5 +1,5 @@
 -- `tapes::make` meets its contract: 41 first, then the tape from the state where the stream begins.
-use Rattle.machine.specs.All.{sym, ◌∙◌, needs}
+use Rattle.machine.specs.All.{sym, ◌∙◌, rules}
 use Rattle.tapes_laws.proofs.Accepted.{contract-refused, contract-made}
 use Rattle.tapes.proofs.make as f
 
@@ -24,4 +24,4 @@ returns-state c =
 
 pub make_spec : {M : Type 1} → f.Statement.statement M
 make_spec =
-    f.Tie.close (f.Tie.spec (search needs) (search needs) (search needs) make-from-requires returns-refused (search needs) returns-state)
+    f.Tie.close (f.Tie.spec (search rules) (search rules) (search rules) make-from-requires returns-refused (search rules) returns-state)

@@ -1,5 +1,5 @@
 -- `records::print_bytes` is safe and ends. The measure is what is left of the length.
-use Rattle.machine.specs.All.{needs, ◌-◌, ◌≤◌, length}
+use Rattle.machine.specs.All.{rules, ◌-◌, ◌≤◌, length}
 use Rattle.test_records.proofs.print_bytes as f
 
 abbrev Inv-loop : f.Tie.InvT-loop
@@ -14,10 +14,10 @@ print-bytes-spec =
     (f.Tie.spec
     Inv-loop
     μ-loop
-    (search needs)
-    (search needs)
-    (search needs)
-    (search needs)
-    (search needs)
-    (search needs)
-    (search needs))
+    (search rules)
+    (search rules)
+    (search rules)
+    (search rules)
+    (search rules)
+    (search rules)
+    (search rules))

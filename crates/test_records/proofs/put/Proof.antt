@@ -1,5 +1,5 @@
 -- `records::put` is safe: what was written fits in the rest behind `used`.
-use Rattle.machine.specs.All.{arith, length-take, length-drop, needs}
+use Rattle.machine.specs.All.{arith, length-take, length-drop, rules}
 use Rattle.test_records.proofs.put as f
 
 add-result : f.Tie.Need-add-result
@@ -11,16 +11,16 @@ pub put_spec : {M : Type 1} → f.Statement.statement M
 put_spec =
     f.Tie.close
     (f.Tie.spec
-    (search needs)
-    (search needs)
-    (search needs)
-    (search needs)
-    (search needs)
-    (search needs)
-    (search needs)
+    (search rules)
+    (search rules)
+    (search rules)
+    (search rules)
+    (search rules)
+    (search rules)
+    (search rules)
     add-result
-    (search needs)
-    (search needs)
-    (search needs)
-    (search needs)
-    (search needs))
+    (search rules)
+    (search rules)
+    (search rules)
+    (search rules)
+    (search rules))

@@ -1,5 +1,5 @@
 -- `records::write_all` is safe and ends. The measure is what is left of the thousand records.
-use Rattle.machine.specs.All.{needs, ◌-◌, ◌≤◌, ◌≡◌, length}
+use Rattle.machine.specs.All.{rules, ◌-◌, ◌≤◌, ◌≡◌, length}
 use Rattle.test_records.proofs.write_all as f
 
 abbrev Inv-loop : f.Tie.InvT-loop
@@ -14,10 +14,10 @@ write-all-spec =
     (f.Tie.spec
     Inv-loop
     μ-loop
-    (search needs)
-    (search needs)
-    (search needs)
-    (search needs)
-    (search needs)
-    (search needs)
-    (search needs))
+    (search rules)
+    (search rules)
+    (search rules)
+    (search rules)
+    (search rules)
+    (search rules)
+    (search rules))

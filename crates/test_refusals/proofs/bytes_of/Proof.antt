@@ -1,6 +1,6 @@
 -- `bytes_of` stays within both slices. The invariant: n is at most the room, which keeps its length. The measure is what is left of the
 -- text.
-use Rattle.machine.specs.All.{◌≤◌, ◌-◌, ◌≡◌, arith, length, length-set, needs}
+use Rattle.machine.specs.All.{◌≤◌, ◌-◌, ◌≡◌, arith, length, length-set, rules}
 use Rattle.test_refusals.proofs.bytes_of as f
 
 abbrev Inv-loop : f.Tie.InvT-loop
@@ -15,18 +15,18 @@ bytes-of-spec =
     (f.Tie.spec
     Inv-loop
     μ-loop
-    (search needs)
-    (search needs)
-    (search needs)
-    (search needs)
-    (search needs)
-    (search needs)
-    (search needs)
-    (search needs)
-    (search needs)
-    (search needs)
-    (search needs)
-    (search needs)
+    (search rules)
+    (search rules)
+    (search rules)
+    (search rules)
+    (search rules)
+    (search rules)
+    (search rules)
+    (search rules)
+    (search rules)
+    (search rules)
+    (search rules)
+    (search rules)
     (λ c. (simp length-set (omega arith), simp length-set (omega arith)))
-    (search needs)
-    (search needs))
+    (search rules)
+    (search rules))

@@ -1,5 +1,5 @@
 -- `refusals::cut_models` ends. The loop's invariant: n is at most the model's length. The measure is what is left of it.
-use Rattle.machine.specs.All.{length, length-take, needs, ◌≤◌, ◌-◌, arith}
+use Rattle.machine.specs.All.{length, length-take, rules, ◌≤◌, ◌-◌, arith}
 use Rattle.test_refusals.proofs.cut_models as f
 
 abbrev Inv-loop : f.Tie.InvT-loop
@@ -14,10 +14,10 @@ cut-models-spec =
     (f.Tie.spec
     Inv-loop
     μ-loop
-    (search needs)
+    (search rules)
     (λ c. simp length-take (omega arith))
-    (search needs)
+    (search rules)
     (omega arith)
     (omega arith)
     (omega arith)
-    (search needs))
+    (search rules))

@@ -1,5 +1,5 @@
 -- `find` answers a position from the first one on, at most the length. The invariant: so does i. The measure is what is left of the bytes.
-use Rattle.machine.specs.All.{◌≤◌, ◌-◌, length, needs}
+use Rattle.machine.specs.All.{◌≤◌, ◌-◌, length, rules}
 use Rattle.test_refusals.proofs.find as f
 
 abbrev Inv-loop : f.Tie.InvT-loop
@@ -14,10 +14,10 @@ find_spec =
     (f.Tie.spec
     Inv-loop
     μ-loop
-    (search needs)
-    (search needs)
-    (search needs)
-    (search needs)
-    (search needs)
-    (search needs)
-    (search needs))
+    (search rules)
+    (search rules)
+    (search rules)
+    (search rules)
+    (search rules)
+    (search rules)
+    (search rules))

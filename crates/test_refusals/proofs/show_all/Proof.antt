@@ -1,5 +1,5 @@
 -- `show_all` is safe and ends. The measure is what is left of the cases.
-use Rattle.machine.specs.All.{◌≤◌, ◌-◌, length, needs}
+use Rattle.machine.specs.All.{◌≤◌, ◌-◌, length, rules}
 use Rattle.test_refusals.proofs.show_all as f
 
 abbrev Inv-loop : f.Tie.InvT-loop
@@ -14,14 +14,14 @@ show-all-spec =
     (f.Tie.spec
     Inv-loop
     μ-loop
-    (search needs)
-    (search needs)
-    (search needs)
-    (search needs)
-    (search needs)
-    (search needs)
-    (search needs)
-    (search needs)
-    (search needs)
-    (search needs)
-    (search needs))
+    (search rules)
+    (search rules)
+    (search rules)
+    (search rules)
+    (search rules)
+    (search rules)
+    (search rules)
+    (search rules)
+    (search rules)
+    (search rules)
+    (search rules))

@@ -1,6 +1,6 @@
 -- `sums::put` meets its contract: each index is in range. The loop's invariant: the tables keep their length, and `i` is at most
 -- the count of the numbers. The measure is what is left of them.
-use Rattle.machine.specs.All.{◌-◌, ◌≤◌, ◌<◌, ◌≡◌, length, needs}
+use Rattle.machine.specs.All.{◌-◌, ◌≤◌, ◌<◌, ◌≡◌, length, rules}
 use Rattle.test_sums.proofs.put as f
 
 abbrev Inv-loop : f.Tie.InvT-loop
@@ -15,17 +15,17 @@ put_spec =
     (f.Tie.spec
     Inv-loop
     μ-loop
-    (search needs)
-    (search needs)
-    (search needs)
-    (search needs)
-    (search needs)
-    (search needs)
-    (search needs)
-    (search needs)
-    (search needs)
-    (search needs)
-    (search needs)
-    (λ c. search needs)
-    (search needs)
-    (search needs))
+    (search rules)
+    (search rules)
+    (search rules)
+    (search rules)
+    (search rules)
+    (search rules)
+    (search rules)
+    (search rules)
+    (search rules)
+    (search rules)
+    (search rules)
+    (λ c. search rules)
+    (search rules)
+    (search rules))

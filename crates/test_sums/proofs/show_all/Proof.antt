@@ -1,5 +1,5 @@
 -- `sums::show_all` meets its contract. The loop's invariant: `k` is at most 8. The measure is what is left of 8.
-use Rattle.machine.specs.All.{◌-◌, ◌≤◌, needs}
+use Rattle.machine.specs.All.{◌-◌, ◌≤◌, rules}
 use Rattle.test_sums.proofs.show_all as f
 
 abbrev Inv-loop : f.Tie.InvT-loop
@@ -14,10 +14,10 @@ show-all-spec =
     (f.Tie.spec
     Inv-loop
     μ-loop
-    (search needs)
-    (search needs)
-    (search needs)
-    (search needs)
-    (search needs)
-    (search needs)
-    (search needs))
+    (search rules)
+    (search rules)
+    (search rules)
+    (search rules)
+    (search rules)
+    (search rules)
+    (search rules))

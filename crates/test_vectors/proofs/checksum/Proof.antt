@@ -1,5 +1,5 @@
 -- `vectors::checksum` is safe and ends. The invariant: the sum stays below the prime. The measure is what is left of the bytes.
-use Rattle.machine.specs.All.{◌≤◌, ◌<◌, ◌-◌, length, needs}
+use Rattle.machine.specs.All.{◌≤◌, ◌<◌, ◌-◌, length, rules}
 use Rattle.test_vectors.proofs.checksum as f
 
 abbrev Inv-loop : f.Tie.InvT-loop
@@ -14,10 +14,10 @@ checksum-spec =
     (f.Tie.spec
     Inv-loop
     μ-loop
-    (search needs)
-    (search needs)
-    (search needs)
-    (search needs)
-    (search needs)
-    (search needs)
-    (search needs))
+    (search rules)
+    (search rules)
+    (search rules)
+    (search rules)
+    (search rules)
+    (search rules)
+    (search rules))

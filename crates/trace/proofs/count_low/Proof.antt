@@ -1,6 +1,6 @@
 -- `trace::count_low` meets its contract. The invariant of each of its loops: what was counted and what the bytes from `i` on give are
 -- together the count of all. The measure is what is left of the length.
-use Rattle.machine.specs.All.{◌+◌, ◌-◌, ◌≤◌, zero-add, arith, ◌≡◌, length, drop, needs, count_low}
+use Rattle.machine.specs.All.{◌+◌, ◌-◌, ◌≤◌, zero-add, arith, ◌≡◌, length, drop, rules, count_low}
 use Rattle.trace.proofs as our
 use our.Counting.{counted, counted-all}
 use our.count_low as f
@@ -54,30 +54,30 @@ count-low-spec =
     Inv-loop
     μ-loop
     loop-holds
-    (search needs)
-    (search needs)
-    (search needs)
-    (search needs)
-    (search needs)
+    (search rules)
+    (search rules)
+    (search rules)
+    (search rules)
+    (search rules)
     loop-again
-    (search needs)
-    (search needs)
-    (search needs)
-    (search needs)
-    (search needs)
-    (search needs)
+    (search rules)
+    (search rules)
+    (search rules)
+    (search rules)
+    (search rules)
+    (search rules)
     loop2-again
-    (search needs)
-    (search needs)
-    (search needs)
-    (search needs)
-    (search needs)
-    (search needs)
+    (search rules)
+    (search rules)
+    (search rules)
+    (search rules)
+    (search rules)
+    (search rules)
     loop3-again
-    (search needs)
-    (search needs)
-    (search needs)
-    (search needs)
-    (search needs)
+    (search rules)
+    (search rules)
+    (search rules)
+    (search rules)
+    (search rules)
     loop4-again
     returns)

@@ -1,5 +1,5 @@
 -- `trace::fits` meets its contract: where there is room for any record, there is for this one.
-use Rattle.machine.specs.All.{arith, sym, needs, le-leb}
+use Rattle.machine.specs.All.{arith, sym, rules, le-leb}
 use Rattle.trace.specs.{entry}
 use Rattle.trace.proofs as our
 use our.Writer.{record-room}
@@ -15,4 +15,4 @@ returns-last : f.Tie.Need-returns-2
 returns-last c = cc c.record-len.ensures
 
 pub fits-spec : {M : Type 1} → f.Statement.statement M
-fits-spec = f.Tie.close (f.Tie.spec returns-record-room-at-most-room (search needs) returns-last)
+fits-spec = f.Tie.close (f.Tie.spec returns-record-room-at-most-room (search rules) returns-last)

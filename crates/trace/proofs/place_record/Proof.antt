@@ -1,5 +1,5 @@
 -- `trace::place_record` meets its contract: four numbers written one after the other are the record stored at once.
-use Rattle.machine.specs.All.{needs}
+use Rattle.machine.specs.All.{rules}
 use Rattle.trace.proofs as our
 use our.Writer.{written_behind}
 use our.place_record as f
@@ -15,4 +15,4 @@ returns c =
     at-write-number3.write-number3.ensures at-write-number4.write-number4.ensures
 
 pub place-record-spec : {M : Type 1} → f.Statement.statement M
-place-record-spec = f.Tie.close (f.Tie.spec (search needs) (search needs) (search needs) (search needs) (search needs) returns)
+place-record-spec = f.Tie.close (f.Tie.spec (search rules) (search rules) (search rules) (search rules) (search rules) returns)

@@ -1,5 +1,5 @@
 -- `trace::put_record` meets its contract: four numbers put one after the other are the record stored at once.
-use Rattle.machine.specs.All.{arith, ◌++◌, length-append, needs, number_bytes, record_bytes}
+use Rattle.machine.specs.All.{arith, ◌++◌, length-append, rules, number_bytes, record_bytes}
 use Rattle.trace.specs.{entry}
 use Rattle.trace.proofs as our
 use our.Writer.{record_bytes-length, small, stored-behind}
@@ -78,5 +78,5 @@ put-record-spec =
     put-number-requires-2
     put-number-requires-3
     put-number-requires-4
-    (search needs)
+    (search rules)
     returns)

@@ -3,7 +3,7 @@ use Rattle.codec.proofs.Fields.{value-parsed, refusal-parsed}
 use Rattle.trace.proofs as our
 use our.Reader.{past_end, clock-refused, transaction-refused, block_refused, outcome-refused, record-taken}
 use our.read_record as f
-use Rattle.machine.specs.All.{needs}
+use Rattle.machine.specs.All.{rules}
 
 returns-refused-trace-field : f.Tie.Need-returns-2
 returns-refused-trace-field c =
@@ -71,18 +71,18 @@ read-record-spec =
     f.Tie.close
     (f.Tie.spec
     (λ c. past_end _ _ c.if1.taken)
-    (search needs)
-    (search needs)
-    (search needs)
-    (search needs)
-    (search needs)
-    (search needs)
-    (search needs)
-    (search needs)
-    (search needs)
-    (search needs)
-    (search needs)
-    (search needs)
+    (search rules)
+    (search rules)
+    (search rules)
+    (search rules)
+    (search rules)
+    (search rules)
+    (search rules)
+    (search rules)
+    (search rules)
+    (search rules)
+    (search rules)
+    (search rules)
     returns-refused-trace-field
     returns-refused-trace-field-2
     returns-refused-trace-field-3

@@ -1,5 +1,5 @@
 -- `trace::record_len` meets its contract: four lengths, each at most nine.
-use Rattle.machine.specs.All.{arith, needs}
+use Rattle.machine.specs.All.{arith, rules}
 use Rattle.codec.proofs.Numbers.{number_bytes-longest}
 use Rattle.trace.proofs as our
 use our.Writer.{record_bytes-length}
@@ -57,11 +57,11 @@ pub record-len-spec : {M : Type 1} → f.Statement.statement M
 record-len-spec =
     f.Tie.close
     (f.Tie.spec
-    (search needs)
-    (search needs)
+    (search rules)
+    (search rules)
     add-result
-    (search needs)
+    (search rules)
     add-result-2
-    (search needs)
+    (search rules)
     add-result-3
     returns)

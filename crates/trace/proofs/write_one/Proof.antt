@@ -1,5 +1,5 @@
 -- `trace::write_one` meets its contract: out of range, no room, or the record stored at the front of the rest.
-use Rattle.machine.specs.All.{◌≤◌, sym, ◌∙◌, not-true, not-false, arith, length, needs, record_bytes}
+use Rattle.machine.specs.All.{◌≤◌, sym, ◌∙◌, not-true, not-false, arith, length, rules, record_bytes}
 use Rattle.trace.specs.{entry}
 use Rattle.trace.proofs as our
 use our.Writer.{refused-range, refused-room, written_record, after-refused, after-written, front-written, refused-bytes, bytes_count}
@@ -39,5 +39,5 @@ returns-last c =
 
 pub write-one-spec : {M : Type 1} → f.Statement.statement M
 write-one-spec =
-    f.Tie.close (f.Tie.spec (search needs) returns-not-in-ranges (search needs) returns-len-below-len (search needs)
-    (search needs) returns-last)
+    f.Tie.close (f.Tie.spec (search rules) returns-not-in-ranges (search rules) returns-len-below-len (search rules)
+    (search rules) returns-last)

@@ -1,5 +1,5 @@
 -- `trace::write_record` meets its contract: out of range, no room, or the record stored at the front of the rest.
-use Rattle.machine.specs.All.{sym, ◌∙◌, not-true, not-false, leb-true, leb-false, needs}
+use Rattle.machine.specs.All.{sym, ◌∙◌, not-true, not-false, leb-true, leb-false, rules}
 use Rattle.trace.proofs as our
 use our.Writer.{refused-range, refused-room, written_record, after-refused, after-written, front-written, refused-bytes, bytes_count}
 use our.write_record as f
@@ -53,10 +53,10 @@ pub write-record-spec : {M : Type 1} → f.Statement.statement M
 write-record-spec =
     f.Tie.close
     (f.Tie.spec
-    (search needs)
+    (search rules)
     returns-not-in-ranges
     fits-requires
     returns-not-fits
     put-record-requires
-    (search needs)
+    (search rules)
     returns-last)

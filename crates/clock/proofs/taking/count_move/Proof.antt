@@ -1,6 +1,6 @@
 -- `count_move` meets its contract.
 use Rattle.clock.specs.{count_move}
-use Rattle.machine.specs.All.{needs}
+use Rattle.machine.specs.All.{rules}
 use Rattle.clock.proofs.taking.count_move as f
 
 returns : f.Tie.Need-returns
@@ -13,8 +13,8 @@ returns c =
 
 pub count-move-spec : {M : Type 1} → f.Statement.statement M
 count-move-spec = f.Tie.close (f.Tie.spec
-    (search needs)
-    (search needs)
-    (search needs)
-    (search needs)
+    (search rules)
+    (search rules)
+    (search rules)
+    (search rules)
     returns)

@@ -1,5 +1,5 @@
 -- `next_events` meets its contract, by cases on the first of the FEL.
-use Rattle.machine.specs.All.{arith, needs}
+use Rattle.machine.specs.All.{arith, rules}
 use Rattle.clock.proofs as our
 use our.Steps.{events-none, events_spent, events-come}
 use our.taking.next_events as f
@@ -16,13 +16,13 @@ pub next-events-spec : {M : Type 1} → f.Statement.statement M
 next-events-spec =
     f.Tie.close
     (f.Tie.spec
-    (search needs)
-    (search needs)
+    (search rules)
+    (search rules)
     (λ c. events-none _ _ _ (omega arith))
-    (search needs)
+    (search rules)
     (λ c. events_spent _ _ _ (omega arith) c.if2.taken)
-    (search needs)
-    (search needs)
-    (search needs)
-    (search needs)
+    (search rules)
+    (search rules)
+    (search rules)
+    (search rules)
     returns-last)

@@ -1,5 +1,5 @@
 -- `take` meets its contract, by cases on who is there to move.
-use Rattle.machine.specs.All.{arith, needs}
+use Rattle.machine.specs.All.{arith, rules}
 use Rattle.clock.proofs as our
 use our.Steps.{take-moving, take-first, take-later}
 use our.taking.take as f
@@ -28,14 +28,14 @@ pub take_spec : {M : Type 1} → f.Statement.statement M
 take_spec =
     f.Tie.close
     (f.Tie.spec
-    (search needs)
+    (search rules)
     returns-moving-below-rows
-    (search needs)
-    (search needs)
-    (search needs)
+    (search rules)
+    (search rules)
+    (search rules)
     returns-first-below-rows
-    (search needs)
-    (search needs)
-    (search needs)
-    (search needs)
+    (search rules)
+    (search rules)
+    (search rules)
+    (search rules)
     returns-last)

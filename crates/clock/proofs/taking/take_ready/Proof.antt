@@ -1,5 +1,5 @@
 -- `take_ready` meets its contract, by cases on the first of REL.
-use Rattle.machine.specs.All.{le-ltb, needs}
+use Rattle.machine.specs.All.{le-ltb, rules}
 use Rattle.clock.specs.{ready_scalars}
 use Rattle.clock.proofs as our
 use our.{Steps.ready-taken, taking.take_ready.Statement.statement}
@@ -20,4 +20,4 @@ returns-last c =
 
 pub take-ready-spec : {M : Type 1} → statement M
 take-ready-spec =
-    tie.close (tie.spec (search needs) (search needs) returns-k-at-least-rows (search needs) (search needs) returns-last)
+    tie.close (tie.spec (search rules) (search rules) returns-k-at-least-rows (search rules) (search rules) returns-last)

@@ -1,11 +1,11 @@
 -- `columns::from_columns` meets its contract: what the survey says, the room, and the records written again.
-use Rattle.machine.specs.All.{refl, arith, needs}
+use Rattle.machine.specs.All.{refl, arith, rules}
 use Rattle.trace.proofs.Writer.{refused-bytes, bytes_count}
 use Rattle.columns_laws.proofs.Answers.{surveyed-none, surveyed-taken, from-51, from-52, from_bytes}
 use Rattle.columns.proofs.from.from_columns as f
 
 enum_told : f.Tie.Need-enum-told
-enum_told c = search needs
+enum_told c = search rules
 
 returns-no-taken : f.Tie.Need-returns
 returns-no-taken c =
@@ -42,11 +42,11 @@ pub from-columns-spec : {M : Type 1} → f.Statement.statement M
 from-columns-spec =
     f.Tie.close
     (f.Tie.spec
-    (search needs)
-    (search needs)
+    (search rules)
+    (search rules)
     enum_told
     returns-no-taken
     returns-len-below-len
     write-trace-requires
-    (search needs)
+    (search rules)
     returns-last)

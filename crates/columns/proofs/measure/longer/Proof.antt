@@ -1,5 +1,5 @@
 -- `columns::measure::longer` meets its contract: four lengths, each at most nine.
-use Rattle.machine.specs.All.{◌-◌, arith, needs}
+use Rattle.machine.specs.All.{◌-◌, arith, rules}
 use Rattle.codec.proofs.Numbers.{number_bytes-longest}
 use Rattle.columns_laws.specs.Walks.{longer}
 use Rattle.columns.proofs.measure.longer as f
@@ -41,13 +41,13 @@ pub longer-spec : {M : Type 1} → f.Statement.statement M
 longer-spec =
     f.Tie.close
     (f.Tie.spec
-    (search needs)
-    (search needs)
+    (search rules)
+    (search rules)
     add-t7
-    (search needs)
+    (search rules)
     add-t9
-    (search needs)
+    (search rules)
     add-t11
-    (search needs)
+    (search rules)
     add-t13
     returns)

@@ -1,6 +1,6 @@
 -- `columns::measure::measure` meets its contract. The loop's invariant: with what is still to come, the totals are those of the whole
 -- trace. The measure is how many records more there may be.
-use Rattle.machine.specs.All.{◌-◌, ◌≡◌, refl, sym, ◌∙◌, arith, needs}
+use Rattle.machine.specs.All.{◌-◌, ◌≡◌, refl, sym, ◌∙◌, arith, rules}
 use Rattle.columns_laws.specs.{Columns.max_records, Walks.Short, Walks.at_start}
 use Rattle.columns_laws.proofs.Measuring.{Rest, step-refused, step-taken, step_end}
 use Rattle.columns.proofs.measure.measure as f
@@ -23,7 +23,7 @@ measure-record-requires c κs =
     at-loop.loop.inv.0
 
 enum_told : f.Tie.Need-enum-told Inv-loop μ-loop
-enum_told c = search needs
+enum_told c = search rules
 
 returns-refused : f.Tie.Need-returns Inv-loop μ-loop
 returns-refused c =
@@ -62,7 +62,7 @@ measure-spec =
     measure-record-requires
     enum_told
     returns-refused
-    (search needs)
+    (search rules)
     loop-less
     loop-again
     returns-last)

@@ -1,10 +1,10 @@
 -- `columns::measure::measure_record` meets its contract: what the reader answers, then the two tests.
 use Rattle.columns_laws.proofs.Measuring.{measured-refusal, measured-more, measured_fallen, measured-many, measured-taken}
-use Rattle.machine.specs.All.{needs}
+use Rattle.machine.specs.All.{rules}
 use Rattle.columns.proofs.measure.measure_record as f
 
 enum_told : f.Tie.Need-enum-told
-enum_told c = search needs
+enum_told c = search rules
 
 returns-refused : f.Tie.Need-returns
 returns-refused c =
@@ -40,14 +40,14 @@ pub measure-record-spec : {M : Type 1} → f.Statement.statement M
 measure-record-spec =
     f.Tie.close
     (f.Tie.spec
-    (search needs)
+    (search rules)
     enum_told
-    (search needs)
-    (search needs)
+    (search rules)
+    (search rules)
     returns-refused
     returns-nomore
-    (search needs)
-    (search needs)
+    (search rules)
+    (search rules)
     returns-clock-below-clock
     returns-count-is-max-records
     returns-taken)

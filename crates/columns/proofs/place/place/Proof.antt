@@ -1,6 +1,6 @@
 -- `columns::place::place` meets its contract: four numbers written one after the other.
 use Rattle.columns_laws.proofs.Placing.{placed}
-use Rattle.machine.specs.All.{needs}
+use Rattle.machine.specs.All.{rules}
 use Rattle.columns.proofs.place.place as f
 
 returns : f.Tie.Need-returns
@@ -20,11 +20,11 @@ pub place-spec : {M : Type 1} → f.Statement.statement M
 place-spec =
     f.Tie.close
     (f.Tie.spec
-    (search needs)
-    (search needs)
-    (search needs)
-    (search needs)
-    (search needs)
-    (search needs)
-    (search needs)
+    (search rules)
+    (search rules)
+    (search rules)
+    (search rules)
+    (search rules)
+    (search rules)
+    (search rules)
     returns)

@@ -1,10 +1,10 @@
 -- `columns::place::record_at` meets its contract: what the reader answers.
 use Rattle.columns_laws.proofs.Placing.{entry-taken, entry-refused, entry-none}
-use Rattle.machine.specs.All.{needs}
+use Rattle.machine.specs.All.{rules}
 use Rattle.columns.proofs.place.record_at as f
 
 enum_told : f.Tie.Need-enum-told
-enum_told c = search needs
+enum_told c = search rules
 
 returns-taken : f.Tie.Need-returns
 returns-taken c =
@@ -25,10 +25,10 @@ pub record-at-spec : {M : Type 1} → f.Statement.statement M
 record-at-spec =
     f.Tie.close
     (f.Tie.spec
-    (search needs)
-    (search needs)
+    (search rules)
+    (search rules)
     enum_told
-    (search needs)
+    (search rules)
     returns-taken
     returns-refused
     returns-nomore)

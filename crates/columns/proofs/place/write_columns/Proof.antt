@@ -1,6 +1,6 @@
 -- `columns::place::write_columns` meets its contract. The loop's invariant: what the records that are left give is what all records give.
 -- The measure is `left`.
-use Rattle.machine.specs.All.{◌≡◌, refl, ◌∙◌, arith, length, needs}
+use Rattle.machine.specs.All.{◌≡◌, refl, ◌∙◌, arith, length, rules}
 use Rattle.columns_laws.specs.Walks.{place_all}
 use Rattle.columns_laws.proofs.Placing.{place-more, place_none}
 use Rattle.columns.proofs.place.write_columns as f
@@ -32,7 +32,7 @@ write-columns-spec =
     Inv-loop
     μ-loop
     (λ c. (refl, refl))
-    (search needs)
+    (search rules)
     (omega arith)
     (omega arith)
     loop-again

@@ -1,5 +1,5 @@
 -- `columns::restore::later` meets its contract: the test decides which of the two.
-use Rattle.machine.specs.All.{needs, lt-ltb, le-ltb, arith}
+use Rattle.machine.specs.All.{rules, lt-ltb, le-ltb, arith}
 use Rattle.columns_laws.specs.Walks.{later}
 use Rattle.columns.proofs.restore.later as f
 
@@ -15,7 +15,7 @@ returns-last c =
 
 pub later-spec : {M : Type 1} → f.Statement.statement M
 later-spec = f.Tie.close (f.Tie.spec
-    (search needs)
+    (search rules)
     returns-max-clock-clock-below-difference
-    (search needs)
+    (search rules)
     returns-last)

@@ -1,10 +1,10 @@
 -- `columns::restore::number_at` meets its contract: what the codec answers.
-use Rattle.machine.specs.All.{arith, needs}
+use Rattle.machine.specs.All.{arith, rules}
 use Rattle.columns_laws.proofs.Restoring.{number_read, number-unread}
 use Rattle.columns.proofs.restore.number_at as f
 
 enum_told : f.Tie.Need-enum-told
-enum_told c = search needs
+enum_told c = search rules
 
 returns-number : f.Tie.Need-returns
 returns-number c =
@@ -20,8 +20,8 @@ returns-refused c =
 pub number-at-spec : {M : Type 1} → f.Statement.statement M
 number-at-spec =
     f.Tie.close (f.Tie.spec
-    (search needs)
-    (search needs)
+    (search rules)
+    (search rules)
     enum_told
     returns-number
     returns-refused)

@@ -1,6 +1,6 @@
 -- `columns::restore::restore` meets its contract: four numbers read, four written one after the other.
 use Rattle.columns_laws.proofs.Restoring.{restored}
-use Rattle.machine.specs.All.{needs}
+use Rattle.machine.specs.All.{rules}
 use Rattle.columns.proofs.restore.restore as f
 
 returns : f.Tie.Need-returns
@@ -26,14 +26,14 @@ pub restore-spec : {M : Type 1} → f.Statement.statement M
 restore-spec =
     f.Tie.close
     (f.Tie.spec
-    (search needs)
-    (search needs)
-    (search needs)
-    (search needs)
-    (search needs)
-    (search needs)
-    (search needs)
-    (search needs)
-    (search needs)
-    (search needs)
+    (search rules)
+    (search rules)
+    (search rules)
+    (search rules)
+    (search rules)
+    (search rules)
+    (search rules)
+    (search rules)
+    (search rules)
+    (search rules)
     returns)

@@ -1,6 +1,6 @@
 -- `columns::survey::scan_clocks` meets its contract. The loop's invariant: what the differences that are left give is what all give, and
 -- the sums are within their limits. The measure is `left`.
-use Rattle.machine.specs.All.{◌*◌, ◌-◌, ◌≤◌, ◌≡◌, refl, ◌∙◌, arith, needs, max_clock}
+use Rattle.machine.specs.All.{◌*◌, ◌-◌, ◌≤◌, ◌≡◌, refl, ◌∙◌, arith, rules, max_clock}
 use Rattle.codec.specs.Answers.{cursor_at}
 use Rattle.columns_laws.specs.{Columns.clocks_from, Walks.sized}
 use Rattle.columns_laws.proofs.Surveying.{nine, clocks-none, clocks-stop, clocks-step}
@@ -15,7 +15,7 @@ abbrev μ-loop : f.Tie.MeasureT-loop
 μ-loop s at count left₀ clock₀ next₀ size₀ left clock next size = left
 
 enum_told : f.Tie.Need-enum-told Inv-loop μ-loop
-enum_told c = search needs
+enum_told c = search rules
 
 returns-refused : f.Tie.Need-returns Inv-loop μ-loop
 returns-refused c =
@@ -61,12 +61,12 @@ scan-clocks-spec =
     μ-loop
     (λ c. (omega arith, omega arith, omega arith, refl))
     (omega arith)
-    (search needs)
+    (search rules)
     enum_told
     returns-refused
-    (search needs)
+    (search rules)
     add-clock
-    (search needs)
+    (search rules)
     add-size
     (omega arith)
     (omega arith)

@@ -1,6 +1,6 @@
 -- `columns::survey::scan_column` meets its contract. The loop's invariant: where the numbers that are left end is where all end. The
 -- measure is `left`.
-use Rattle.machine.specs.All.{◌≡◌, refl, ◌∙◌, arith, needs, in_force, times, trace_field}
+use Rattle.machine.specs.All.{◌≡◌, refl, ◌∙◌, arith, rules, in_force, times, trace_field}
 use Rattle.codec.specs.Answers.{cursor_at}
 use Rattle.columns_laws.specs.Walks.{ends}
 use Rattle.columns_laws.proofs.Surveying.{column-none, column-stop, column-step}
@@ -14,7 +14,7 @@ abbrev μ-loop : f.Tie.MeasureT-loop
 μ-loop s at count lo hi left₀ next₀ left next = left
 
 enum_told : f.Tie.Need-enum-told Inv-loop μ-loop
-enum_told c = search needs
+enum_told c = search rules
 
 returns-refused : f.Tie.Need-returns Inv-loop μ-loop
 returns-refused c =
@@ -43,10 +43,10 @@ scan-column-spec =
     Inv-loop
     μ-loop
     (λ c. refl)
-    (search needs)
+    (search rules)
     enum_told
     returns-refused
-    (search needs)
+    (search rules)
     (omega arith)
     (omega arith)
     loop-again

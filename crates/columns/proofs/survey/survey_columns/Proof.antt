@@ -1,11 +1,11 @@
 -- `columns::survey::survey_columns` meets its contract: the count, the columns in their order, and nothing behind them.
-use Rattle.machine.specs.All.{sym, ◌∙◌, arith, needs}
+use Rattle.machine.specs.All.{sym, ◌∙◌, arith, rules}
 use Rattle.codec.proofs.Fields.{value-parsed, refusal-parsed}
 use Rattle.columns_laws.proofs.Surveying.{survey-count, survey-clocks, survey-transactions, survey-blocks, survey-outcomes, survey_long, survey-fits, survey-taken}
 use Rattle.columns.proofs.survey.survey_columns as f
 
 enum_told : f.Tie.Need-enum-told
-enum_told c = search needs
+enum_told c = search rules
 
 returns-no-value : f.Tie.Need-returns
 returns-no-value c =
@@ -180,25 +180,25 @@ pub survey-columns-spec : {M : Type 1} → f.Statement.statement M
 survey-columns-spec =
     f.Tie.close
     (f.Tie.spec
-    (search needs)
-    (search needs)
+    (search rules)
+    (search rules)
     enum_told
     returns-no-value
     scan-clocks-requires
-    (search needs)
-    (search needs)
+    (search rules)
+    (search rules)
     returns-no-end-scan-clocks
-    (search needs)
-    (search needs)
-    (search needs)
+    (search rules)
+    (search rules)
+    (search rules)
     returns-no-end-scan-column
-    (search needs)
-    (search needs)
-    (search needs)
+    (search rules)
+    (search rules)
+    (search rules)
     returns-no-end-scan-column-2
-    (search needs)
-    (search needs)
-    (search needs)
+    (search rules)
+    (search rules)
+    (search rules)
     returns-no-end-scan-column-3
     returns-end-is-not-len
     sub-t14

@@ -1,5 +1,5 @@
 -- `columns::to_columns` meets its contract: what was measured, the room, and the columns written.
-use Rattle.machine.specs.All.{refl, sym, ap, ◌∙◌, arith, needs}
+use Rattle.machine.specs.All.{refl, sym, ap, ◌∙◌, arith, rules}
 use Rattle.trace.proofs.Writer.{refused-bytes, bytes_count}
 use Rattle.columns_laws.specs.Walks.{totals_of}
 use Rattle.columns_laws.proofs.Surveying.{nine}
@@ -7,7 +7,7 @@ use Rattle.columns_laws.proofs.Answers.{measured-none, measured-some, measured-f
 use Rattle.columns.proofs.to.to_columns as f
 
 enum_told : f.Tie.Need-enum-told
-enum_told c = search needs
+enum_told c = search rules
 
 returns-no-taken : f.Tie.Need-returns
 returns-no-taken c =
@@ -85,17 +85,17 @@ pub to-columns-spec : {M : Type 1} → f.Statement.statement M
 to-columns-spec =
     f.Tie.close
     (f.Tie.spec
-    (search needs)
-    (search needs)
+    (search rules)
+    (search rules)
     enum_told
     returns-no-taken
-    (search needs)
+    (search rules)
     add-transactions
     add-blocks
     add-outcomes
     add-len
     returns-len-below-len
-    (search needs)
-    (search needs)
-    (search needs)
+    (search rules)
+    (search rules)
+    (search rules)
     returns-last)

@@ -1,5 +1,5 @@
 -- `end_before` meets its contract: the end of the turn before, dry, the limits. Assumes nothing.
-use Rattle.machine.specs.All.{sym, ◌∙◌, eq-eqb, ne_eqb, needs}
+use Rattle.machine.specs.All.{sym, ◌∙◌, eq-eqb, ne_eqb, rules}
 use Rattle.engine_laws.specs.Ends.{end_rows}
 use Rattle.engine.proofs.ends.end_before as f
 
@@ -25,7 +25,7 @@ pub end-before-spec : {M : Type 1} → f.Statement.statement M
 end-before-spec =
     f.Tie.close (f.Tie.spec
     returns-end-is-not-0
-    (search needs)
+    (search rules)
     returns-nobody-left
-    (search needs)
+    (search rules)
     returns-last)

@@ -1,5 +1,5 @@
 -- `limit` meets its contract: limit by limit. Assumes nothing.
-use Rattle.machine.specs.All.{sym, ◌∙◌, le-leb, lt-leb, needs}
+use Rattle.machine.specs.All.{sym, ◌∙◌, le-leb, lt-leb, rules}
 use Rattle.engine_laws.specs.Ends.{limit_rows}
 use Rattle.engine.proofs.ends.limit as f
 
@@ -42,10 +42,10 @@ returns-last c =
 pub limit-spec : {M : Type 1} → f.Statement.statement M
 limit-spec =
     f.Tie.close (f.Tie.spec
-    (λ c κs. search needs)
+    (λ c κs. search rules)
     returns-worn-out
-    (search needs)
+    (search rules)
     returns-budget-at-most-turns
-    (λ c κs. search needs)
+    (λ c κs. search rules)
     returns-trace-full
     returns-last)

@@ -1,5 +1,5 @@
 -- `nobody_left` meets its contract: list by list. Assumes nothing.
-use Rattle.machine.specs.All.{sym, lt-ltb, le-ltb, needs}
+use Rattle.machine.specs.All.{sym, lt-ltb, le-ltb, rules}
 use Rattle.engine_laws.specs.Ends.{nobody_rows}
 use Rattle.engine.proofs.ends.nobody_left as f
 
@@ -26,7 +26,7 @@ nobody-left-spec =
     f.Tie.close
     (f.Tie.spec
     returns-moving-below-rows
-    (search needs)
+    (search rules)
     returns-first-below-rows
-    (search needs)
+    (search rules)
     returns-last)

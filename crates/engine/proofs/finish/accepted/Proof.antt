@@ -1,7 +1,7 @@
 -- `accepted` meets its contract: the turns, the report, the results. Assumes nothing.
 use Rattle.engine_laws.specs.Last.{last_rows}
 use Rattle.engine_laws.proofs.TurnsLaws.{finishes}
-use Rattle.machine.specs.All.{needs}
+use Rattle.machine.specs.All.{rules}
 use Rattle.engine.proofs.finish.accepted as f
 
 returns : f.Tie.Need-returns
@@ -15,10 +15,10 @@ pub accepted-spec : {M : Type 1} → f.Statement.statement M
 accepted-spec =
     f.Tie.close
     (f.Tie.spec
-    (search needs)
-    (search needs)
-    (search needs)
-    (search needs)
-    (search needs)
-    (search needs)
+    (search rules)
+    (search rules)
+    (search rules)
+    (search rules)
+    (search rules)
+    (search rules)
     returns)

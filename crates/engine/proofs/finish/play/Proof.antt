@@ -1,5 +1,5 @@
 -- `play` meets its contract: the start, then the turns. Assumes nothing.
-use Rattle.machine.specs.All.{arith, needs}
+use Rattle.machine.specs.All.{arith, rules}
 use Rattle.engine_laws.proofs.TurnsLaws.{turns-begun}
 use Rattle.engine.proofs.finish.play as f
 
@@ -20,8 +20,8 @@ pub play-spec : {M : Type 1} → f.Statement.statement M
 play-spec =
     f.Tie.close
     (f.Tie.spec
-    (search needs)
+    (search rules)
     turns-requires
-    (search needs)
-    (search needs)
+    (search rules)
+    (search rules)
     returns)

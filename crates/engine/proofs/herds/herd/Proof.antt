@@ -1,5 +1,5 @@
 -- `herd` meets its contract: no turn, or those of all who come to the block of the first of REL.
-use Rattle.machine.specs.All.{◌∙◌, sym, arith, not-false, needs}
+use Rattle.machine.specs.All.{◌∙◌, sym, arith, not-false, rules}
 use Rattle.engine_laws.proofs.Herding.{onward-none}
 use Rattle.engine.proofs.herds.herd as f
 
@@ -47,14 +47,14 @@ herd-spec =
     (f.Tie.spec
     returns-note-is-not-no-record
     returns-moving-is-not-nobody
-    (search needs)
-    (search needs)
-    (search needs)
-    (search needs)
+    (search rules)
+    (search rules)
+    (search rules)
+    (search rules)
     returns-quiet
-    (search needs)
-    (search needs)
+    (search rules)
+    (search rules)
     returns-not-all-wait
-    (search needs)
-    (search needs)
+    (search rules)
+    (search rules)
     returns-last)

@@ -1,5 +1,5 @@
 -- `queue_all` meets its contract: no turn, or those that `queued` speaks of.
-use Rattle.machine.specs.All.{sym, ◌∙◌, arith, not-false, needs}
+use Rattle.machine.specs.All.{sym, ◌∙◌, arith, not-false, rules}
 use Rattle.engine_laws.proofs.Herding.{queued, queued-still, queued-none, fits-left}
 use Rattle.engine.proofs.herds.queue_all as f
 
@@ -45,17 +45,17 @@ pub queue-all-spec : {M : Type 1} → f.Statement.statement M
 queue-all-spec =
     f.Tie.close
     (f.Tie.spec
-    (search needs)
-    (search needs)
+    (search rules)
+    (search rules)
     (λ c. queued-none _ _ _ _ _ _ _ _)
-    (search needs)
-    (search needs)
+    (search rules)
+    (search rules)
     (λ c. queued-none _ _ _ _ _ _ _ _)
-    (search needs)
-    (search needs)
+    (search rules)
+    (search rules)
     same-length-3
     returns-n-is-0
-    (search needs)
+    (search rules)
     add-result
     same-length-4
     returns-last)

@@ -1,5 +1,5 @@
 -- `stay_all` meets its contract. The loop's invariant: it is amid the herd, `Amid`. The measure is the steps left. Assumes nothing.
-use Rattle.machine.specs.All.{sym, ◌∙◌, arith, needs}
+use Rattle.machine.specs.All.{sym, ◌∙◌, arith, rules}
 use Rattle.engine_laws.proofs.Herding.{turns-below, Amid, amid-none, amid-next, amid-done}
 use Rattle.engine.proofs.herds.stay_all as f
 
@@ -55,13 +55,13 @@ stay-all-spec =
     Inv-loop
     μ-loop
     (λ c. amid-none)
-    (search needs)
+    (search rules)
     same_length
     returns-end-before-is-not-0
-    (search needs)
+    (search rules)
     same-length-2
     returns-back-to-is-not-block
-    (search needs)
+    (search rules)
     add-y
     (omega arith)
     (omega arith)

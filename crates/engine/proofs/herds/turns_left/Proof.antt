@@ -1,5 +1,5 @@
 -- `turns_left` meets its contract: the least of three.
-use Rattle.machine.specs.All.{arith, needs}
+use Rattle.machine.specs.All.{arith, rules}
 use Rattle.engine_laws.specs.Turns.{turns_left}
 use Rattle.engine.proofs.herds.turns_left as f
 
@@ -21,10 +21,10 @@ pub turns-left-spec : {M : Type 1} → f.Statement.statement M
 turns-left-spec =
     f.Tie.close
     (f.Tie.spec
-    (search needs)
-    (search needs)
-    (search needs)
-    (search needs)
-    (search needs)
+    (search rules)
+    (search rules)
+    (search rules)
+    (search rules)
+    (search rules)
     returns-bought-below-most
     returns-last)

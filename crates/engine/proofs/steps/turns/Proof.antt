@@ -1,6 +1,6 @@
 -- `turns` meets its contract. The invariant of both loops: the rest of the run from here is the run from where the loop began, and the
 -- buffers keep their lengths; of the inner one also that a turn was taken where it ends. The measures are the steps left. Assumes nothing.
-use Rattle.machine.specs.All.{◌≤◌, ◌<◌, ◌≡◌, refl, sym, ap, ◌∙◌, false, true≢false, arith, length, needs}
+use Rattle.machine.specs.All.{◌≤◌, ◌<◌, ◌≡◌, refl, sym, ap, ◌∙◌, false, true≢false, arith, length, rules}
 use Rattle.state.specs.All.{rows_of}
 use Rattle.turn_laws.specs.Turn.{traced}
 use Rattle.engine_laws.specs.{Ends.end_rows, Turns.turns_from}
@@ -139,15 +139,15 @@ turns-spec =
     same_length
     same-length-2
     returns-left-is-0
-    (search needs)
+    (search rules)
     same-length-3
     same-length-4
     returns-e-is-not-0
-    (search needs)
+    (search rules)
     (omega arith)
     (omega arith)
     loop2-again
-    (search needs)
+    (search rules)
     (omega arith)
     sub-left-3
     loop-less

@@ -1,5 +1,5 @@
 -- `terms::answer::next_of` meets its contract.
-use Rattle.machine.specs.All.{refl, needs}
+use Rattle.machine.specs.All.{refl, rules}
 use Rattle.evaluation.specs.{unpacked}
 use Rattle.evaluation.proofs.answer.next_of as f
 
@@ -9,4 +9,4 @@ returns c =
     refl
 
 pub next-of-spec : {M : Type 1} → f.Statement.statement M
-next-of-spec = f.Tie.close (f.Tie.spec (search needs) returns)
+next-of-spec = f.Tie.close (f.Tie.spec (search rules) returns)

@@ -1,5 +1,5 @@
 -- `terms::answer::packed` meets its contract: the bits below, the position above.
-use Rattle.machine.specs.All.{refl, needs}
+use Rattle.machine.specs.All.{refl, rules}
 use Rattle.std.proofs.Common.{to_z-of_z}
 use Rattle.evaluation.proofs as our
 use our.Signs.{unpacked-is}
@@ -11,8 +11,8 @@ returns c =
 
 pub packed-spec : {M : Type 1} → f.Statement.statement M
 packed-spec = f.Tie.close (f.Tie.spec
-    (search needs)
-    (search needs)
-    (search needs)
-    (search needs)
+    (search rules)
+    (search rules)
+    (search rules)
+    (search rules)
     returns)

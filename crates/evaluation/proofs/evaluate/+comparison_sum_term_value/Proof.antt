@@ -1,6 +1,6 @@
 -- The proof of the cycle of calls: sums and terms call each other. The measure is one number for value number, bracket depth and
 -- remaining terms: a mention goes to a lower value, a comparison or a bracket one level deeper, a sum to its next term.
-use Rattle.machine.specs.All.{ℕ, ◌+◌, ◌*◌, ◌<◌, arith, sym, ◌∙◌, needs}
+use Rattle.machine.specs.All.{ℕ, ◌+◌, ◌*◌, ◌<◌, arith, sym, ◌∙◌, rules}
 use Rattle.std.proofs.Common.{to_z-of_z}
 use borrow.Fn.Kinds.{In}
 use borrow.Fn.PlainCycle.{Measures, is, falls, and}
@@ -124,22 +124,22 @@ value-claims t = (number-reads.Asked, number-reads.Learnt, sum_below t, sum.Post
 -- ---- comparison
 
 comparison-add-term : (t : ℕ) → comparison-lts.Need-overflow-add-term (comparison-claims t) (comparison-at t) comparison.Post
-comparison-add-term t c = search needs
+comparison-add-term t c = search rules
 
 comparison-term-requires : (t : ℕ) → comparison-lts.Need-term-requires (comparison-claims t) (comparison-at t) comparison.Post
-comparison-term-requires t c κs = search needs
+comparison-term-requires t c κs = search rules
 
 comparison-next-of-requires : (t : ℕ) → comparison-lts.Need-next-of-requires (comparison-claims t) (comparison-at t) comparison.Post
-comparison-next-of-requires t c κs = search needs
+comparison-next-of-requires t c κs = search rules
 
 comparison-term-requires-2 : (t : ℕ) → comparison-lts.Need-term-requires-2 (comparison-claims t) (comparison-at t) comparison.Post
-comparison-term-requires-2 t c κs = search needs
+comparison-term-requires-2 t c κs = search rules
 
 comparison-number-at-requires : (t : ℕ) → comparison-lts.Need-number-at-requires (comparison-claims t) (comparison-at t) comparison.Post
-comparison-number-at-requires t c κs = search needs
+comparison-number-at-requires t c κs = search rules
 
 comparison-judge-requires : (t : ℕ) → comparison-lts.Need-judge-requires (comparison-claims t) (comparison-at t) comparison.Post
-comparison-judge-requires t c κs = search needs
+comparison-judge-requires t c κs = search rules
 
 comparison-returns : (t : ℕ) → comparison-lts.Need-returns (comparison-claims t) (comparison-at t) comparison.Post
 comparison-returns t c =
@@ -149,16 +149,16 @@ comparison-returns t c =
 -- ---- sum
 
 sum-packed-requires : (t : ℕ) → sum-lts.Need-packed-requires (sum-claims t) (sum-at t) sum.Post
-sum-packed-requires t c κs = search needs
+sum-packed-requires t c κs = search rules
 
 sum-returns : (t : ℕ) → sum-lts.Need-returns (sum-claims t) (sum-at t) sum.Post
 sum-returns t c = c.packed.ensures ∙ rw (to_z-of_z c.before.before.ranges.so_far) (sym (sum-none _ _ _ _ _ c.before.if1.true))
 
 sum-number-at-requires : (t : ℕ) → sum-lts.Need-number-at-requires (sum-claims t) (sum-at t) sum.Post
-sum-number-at-requires t c κs = search needs
+sum-number-at-requires t c κs = search rules
 
 sum-packed-requires-2 : (t : ℕ) → sum-lts.Need-packed-requires-2 (sum-claims t) (sum-at t) sum.Post
-sum-packed-requires-2 t c κs = search needs
+sum-packed-requires-2 t c κs = search rules
 
 sum-returns-2 : (t : ℕ) → sum-lts.Need-returns-2 (sum-claims t) (sum-at t) sum.Post
 sum-returns-2 t c =
@@ -166,25 +166,25 @@ sum-returns-2 t c =
     ∙ rw (to_z-of_z c.before.before.before.before.ranges.so_far) (sym (sum_past _ _ _ _ _ (omega arith)))
 
 sum-add-term : (t : ℕ) → sum-lts.Need-overflow-add-term (sum-claims t) (sum-at t) sum.Post
-sum-add-term t c = search needs
+sum-add-term t c = search rules
 
 sum-term-requires : (t : ℕ) → sum-lts.Need-term-requires (sum-claims t) (sum-at t) sum.Post
-sum-term-requires t c κs = search needs
+sum-term-requires t c κs = search rules
 
 sum-worth-of-requires : (t : ℕ) → sum-lts.Need-worth-of-requires (sum-claims t) (sum-at t) sum.Post
-sum-worth-of-requires t c κs = search needs
+sum-worth-of-requires t c κs = search rules
 
 sum-join-requires : (t : ℕ) → sum-lts.Need-join-requires (sum-claims t) (sum-at t) sum.Post
-sum-join-requires t c κs = search needs
+sum-join-requires t c κs = search rules
 
 sum-sub-sum : (t : ℕ) → sum-lts.Need-overflow-sub-sum (sum-claims t) (sum-at t) sum.Post
-sum-sub-sum t c = search needs
+sum-sub-sum t c = search rules
 
 sum-next-of-requires : (t : ℕ) → sum-lts.Need-next-of-requires (sum-claims t) (sum-at t) sum.Post
-sum-next-of-requires t c κs = search needs
+sum-next-of-requires t c κs = search rules
 
 sum-sum-requires : (t : ℕ) → sum-lts.Need-sum-requires (sum-claims t) (sum-at t) sum.Post
-sum-sum-requires t c κs = search needs
+sum-sum-requires t c κs = search rules
 
 sum-returns-3 : (t : ℕ) → sum-lts.Need-returns-3 (sum-claims t) (sum-at t) sum.Post
 sum-returns-3 t c =
@@ -197,31 +197,31 @@ sum-returns-3 t c =
     c.before.next_of.ensures _ c.sum.ensures
 
 term-number-at-requires : (t : ℕ) → term-lts.Need-number-at-requires (term-claims t) (term-at t) term.Post
-term-number-at-requires t c κs = search needs
+term-number-at-requires t c κs = search rules
 
 -- ---- term
 
 term-packed-requires : (t : ℕ) → term-lts.Need-packed-requires (term-claims t) (term-at t) term.Post
-term-packed-requires t c κs = search needs
+term-packed-requires t c κs = search rules
 
 term-returns : (t : ℕ) → term-lts.Need-returns (term-claims t) (term-at t) term.Post
 term-returns t c =
     c.packed.ensures ∙ sym (term-past _ _ _ _ _ (omega arith))
 
 term-add-number-at : (t : ℕ) → term-lts.Need-overflow-add-number-at (term-claims t) (term-at t) term.Post
-term-add-number-at t c = search needs
+term-add-number-at t c = search rules
 
 term-number-at-requires-2 : (t : ℕ) → term-lts.Need-number-at-requires-2 (term-claims t) (term-at t) term.Post
-term-number-at-requires-2 t c κs = search needs
+term-number-at-requires-2 t c κs = search rules
 
 term-simple-term-requires : (t : ℕ) → term-lts.Need-simple-term-requires (term-claims t) (term-at t) term.Post
-term-simple-term-requires t c κs = search needs
+term-simple-term-requires t c κs = search rules
 
 term-add-packed : (t : ℕ) → term-lts.Need-overflow-add-packed (term-claims t) (term-at t) term.Post
-term-add-packed t c = search needs
+term-add-packed t c = search rules
 
 term-packed-requires-2 : (t : ℕ) → term-lts.Need-packed-requires-2 (term-claims t) (term-at t) term.Post
-term-packed-requires-2 t c κs = search needs
+term-packed-requires-2 t c κs = search rules
 
 term-returns-2 : (t : ℕ) → term-lts.Need-returns-2 (term-claims t) (term-at t) term.Post
 term-returns-2 t c =
@@ -231,13 +231,13 @@ term-returns-2 t c =
     c.before.before.before.number-at2.ensures.0 _ c.before.before.if2.true))
 
 term-value-requires : (t : ℕ) → term-lts.Need-value-requires (term-claims t) (term-at t) term.Post
-term-value-requires t c κs = search needs
+term-value-requires t c κs = search rules
 
 term-add-packed-2 : (t : ℕ) → term-lts.Need-overflow-add-packed-2 (term-claims t) (term-at t) term.Post
-term-add-packed-2 t c = search needs
+term-add-packed-2 t c = search rules
 
 term-packed-requires-3 : (t : ℕ) → term-lts.Need-packed-requires-3 (term-claims t) (term-at t) term.Post
-term-packed-requires-3 t c κs = search needs
+term-packed-requires-3 t c κs = search rules
 
 term-returns-3 : (t : ℕ) → term-lts.Need-returns-3 (term-claims t) (term-at t) term.Post
 term-returns-3 t c =
@@ -247,10 +247,10 @@ term-returns-3 t c =
     c.before.before.before.before.number-at2.ensures.0 _ c.before.before.if3.true))
 
 term-add-packed-3 : (t : ℕ) → term-lts.Need-overflow-add-packed-3 (term-claims t) (term-at t) term.Post
-term-add-packed-3 t c = search needs
+term-add-packed-3 t c = search rules
 
 term-packed-requires-4 : (t : ℕ) → term-lts.Need-packed-requires-4 (term-claims t) (term-at t) term.Post
-term-packed-requires-4 t c κs = search needs
+term-packed-requires-4 t c κs = search rules
 
 term-returns-4 : (t : ℕ) → term-lts.Need-returns-4 (term-claims t) (term-at t) term.Post
 term-returns-4 t c =
@@ -260,13 +260,13 @@ term-returns-4 t c =
     c.before.before.if3.false)
 
 term-sub-comparison : (t : ℕ) → term-lts.Need-overflow-sub-comparison (term-claims t) (term-at t) term.Post
-term-sub-comparison t c = search needs
+term-sub-comparison t c = search rules
 
 term-add-comparison : (t : ℕ) → term-lts.Need-overflow-add-comparison (term-claims t) (term-at t) term.Post
-term-add-comparison t c = search needs
+term-add-comparison t c = search rules
 
 term-comparison-requires : (t : ℕ) → term-lts.Need-comparison-requires (term-claims t) (term-at t) term.Post
-term-comparison-requires t c κs = search needs
+term-comparison-requires t c κs = search rules
 
 term-returns-5 : (t : ℕ) → term-lts.Need-returns-5 (term-claims t) (term-at t) term.Post
 term-returns-5 t c =
@@ -275,13 +275,13 @@ term-returns-5 t c =
     c.before.before.before.before.before.number-at2.ensures.0 _ c.before.before.if4.false c.before.if5.true)
 
 term-sub-sum : (t : ℕ) → term-lts.Need-overflow-sub-sum (term-claims t) (term-at t) term.Post
-term-sub-sum t c = search needs
+term-sub-sum t c = search rules
 
 term-add-sum : (t : ℕ) → term-lts.Need-overflow-add-sum (term-claims t) (term-at t) term.Post
-term-add-sum t c = search needs
+term-add-sum t c = search rules
 
 term-sum-requires : (t : ℕ) → term-lts.Need-sum-requires (term-claims t) (term-at t) term.Post
-term-sum-requires t c κs = search needs
+term-sum-requires t c κs = search rules
 
 term-returns-6 : (t : ℕ) → term-lts.Need-returns-6 (term-claims t) (term-at t) term.Post
 term-returns-6 t c =
@@ -296,32 +296,32 @@ value-returns : (t : ℕ) → value-lts.Need-returns (value-claims t) (value-at 
 value-returns t c = sym (value_None _ _ _ _ c.if1.true)
 
 value-mul-at : (t : ℕ) → value-lts.Need-overflow-mul-at (value-claims t) (value-at t) value.Post
-value-mul-at t c = search needs
+value-mul-at t c = search rules
 
 value-add-at : (t : ℕ) → value-lts.Need-overflow-add-at (value-claims t) (value-at t) value.Post
-value-add-at t c = search needs
+value-add-at t c = search rules
 
 value-number-requires : (t : ℕ) → value-lts.Need-number-requires (value-claims t) (value-at t) value.Post
-value-number-requires t c κs = search needs
+value-number-requires t c κs = search rules
 
 value-add-if2 : (t : ℕ) → value-lts.Need-overflow-add-if2 (value-claims t) (value-at t) value.Post
-value-add-if2 t c = search needs
+value-add-if2 t c = search rules
 
 value-returns-2 : (t : ℕ) → value-lts.Need-returns-2 (value-claims t) (value-at t) value.Post
 value-returns-2 t c =
     value-past _ _ _ _ c.before.before.before.if1.false (omega arith)
 
 value-add-sum : (t : ℕ) → value-lts.Need-overflow-add-sum (value-claims t) (value-at t) value.Post
-value-add-sum t c = search needs
+value-add-sum t c = search rules
 
 value-cast-sum : (t : ℕ) → value-lts.Need-overflow-cast-sum (value-claims t) (value-at t) value.Post
-value-cast-sum t c = search needs
+value-cast-sum t c = search rules
 
 value-sum-requires : (t : ℕ) → value-lts.Need-sum-requires (value-claims t) (value-at t) value.Post
-value-sum-requires t c κs = search needs
+value-sum-requires t c κs = search rules
 
 value-worth-of-requires : (t : ℕ) → value-lts.Need-worth-of-requires (value-claims t) (value-at t) value.Post
-value-worth-of-requires t c κs = search needs
+value-worth-of-requires t c κs = search rules
 
 value-returns-3 : (t : ℕ) → value-lts.Need-returns-3 (value-claims t) (value-at t) value.Post
 value-returns-3 t c =

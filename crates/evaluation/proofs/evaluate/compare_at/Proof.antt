@@ -1,5 +1,5 @@
 -- `terms::evaluate::compare_at` meets its contract: a term of a block takes two numbers.
-use Rattle.machine.specs.All.{◌∙◌, needs}
+use Rattle.machine.specs.All.{◌∙◌, rules}
 use Rattle.evaluation.specs.{compare_at}
 use Rattle.evaluation.proofs as our
 use our.Signs.{back}
@@ -17,10 +17,10 @@ pub compare-at-spec : {M : Type 1} → f.Statement.statement M
 compare-at-spec =
     f.Tie.close
     (f.Tie.spec
-    (search needs)
-    (search needs)
-    (search needs)
-    (search needs)
-    (search needs)
-    (search needs)
+    (search rules)
+    (search rules)
+    (search rules)
+    (search rules)
+    (search rules)
+    (search rules)
     returns)

@@ -1,5 +1,5 @@
 -- `terms::evaluate::join` meets its contract.
-use Rattle.machine.specs.All.{◌∙◌, needs, ne_eqb}
+use Rattle.machine.specs.All.{◌∙◌, rules, ne_eqb}
 use Rattle.std.proofs.Common.{to_z-of_z}
 use Rattle.evaluation.specs.{joined}
 use Rattle.evaluation.proofs as our
@@ -21,4 +21,4 @@ returns-else c =
     (back _ c.subtract.ok ∙ c.subtract.ensures ∙ rw (to_z-of_z start.fits.a, to_z-of_z start.fits.b))
 
 pub join-spec : {M : Type 1} → f.Statement.statement M
-join-spec = f.Tie.close (f.Tie.spec (search needs) (search needs) returns-sign-is-0 returns-else)
+join-spec = f.Tie.close (f.Tie.spec (search rules) (search rules) returns-sign-is-0 returns-else)

@@ -1,5 +1,5 @@
 -- `terms::evaluate::judge` meets its contract.
-use Rattle.machine.specs.All.{◌∙◌, needs}
+use Rattle.machine.specs.All.{◌∙◌, rules}
 use Rattle.evaluation.specs.{judged}
 use Rattle.evaluation.proofs as our
 use our.Signs.{back}
@@ -26,4 +26,4 @@ returns c =
 pub judge-spec : {M : Type 1} → f.Statement.statement M
 judge-spec =
     f.Tie.close
-    (f.Tie.spec (search needs) (search needs) (search needs) (search needs) (search needs) (search needs) returns)
+    (f.Tie.spec (search rules) (search rules) (search rules) (search rules) (search rules) (search rules) returns)

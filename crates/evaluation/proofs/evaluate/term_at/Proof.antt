@@ -1,5 +1,5 @@
 -- `terms::evaluate::term_at` meets its contract: what `term` gives where no bracket may open.
-use Rattle.machine.specs.All.{ap, ◌∙◌, needs}
+use Rattle.machine.specs.All.{ap, ◌∙◌, rules}
 use Rattle.evaluation.specs.{Worth, term_at}
 use Rattle.evaluation.proofs as our
 use our.Signs.{back}
@@ -12,7 +12,7 @@ returns c =
 
 pub term-at-spec : {M : Type 1} → f.Statement.statement M
 term-at-spec = f.Tie.close (f.Tie.spec
-    (search needs)
-    (search needs)
-    (search needs)
+    (search rules)
+    (search rules)
+    (search rules)
     returns)

@@ -1,5 +1,5 @@
 -- `terms::simple::capacity` meets its contract.
-use Rattle.machine.specs.All.{◌∙◌, needs, lt-ltb, le-ltb}
+use Rattle.machine.specs.All.{◌∙◌, rules, lt-ltb, le-ltb}
 use Rattle.evaluation.specs.{within}
 use Rattle.evaluation.proofs.simple.capacity as f
 
@@ -16,8 +16,8 @@ returns-else c =
 
 pub capacity_spec : {M : Type 1} → f.Statement.statement M
 capacity_spec = f.Tie.close (f.Tie.spec
-    (search needs)
-    (search needs)
-    (search needs)
+    (search rules)
+    (search rules)
+    (search rules)
     returns-i-below-servers
     returns-else)

@@ -1,5 +1,5 @@
 -- `terms::simple::free` meets its contract: the difference, cut off at 0.
-use Rattle.machine.specs.All.{arith, needs}
+use Rattle.machine.specs.All.{arith, rules}
 use Rattle.evaluation.specs.{free_units}
 use Rattle.evaluation.proofs.simple.free as f
 
@@ -15,7 +15,7 @@ returns-else c =
 
 pub free_spec : {M : Type 1} → f.Statement.statement M
 free_spec = f.Tie.close (f.Tie.spec
-    (search needs)
-    (search needs)
+    (search rules)
+    (search rules)
     returns-used-at-most-whole
     returns-else)

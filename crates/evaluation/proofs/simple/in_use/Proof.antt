@@ -1,5 +1,5 @@
 -- `terms::simple::in_use` meets its contract.
-use Rattle.machine.specs.All.{needs, lt-ltb, le-ltb}
+use Rattle.machine.specs.All.{rules, lt-ltb, le-ltb}
 use Rattle.evaluation.proofs.simple.in_use as f
 
 returns-case-0-below-tallied : f.Tie.Need-returns
@@ -11,4 +11,4 @@ returns-else c =
     rw (← c.before.tallied.ensures, le-ltb 0 _ c.if1.left)
 
 pub in-use-spec : {M : Type 1} → f.Statement.statement M
-in-use-spec = f.Tie.close (f.Tie.spec (search needs) returns-case-0-below-tallied returns-else)
+in-use-spec = f.Tie.close (f.Tie.spec (search rules) returns-case-0-below-tallied returns-else)

@@ -1,5 +1,5 @@
 -- `terms::simple::simple_term` meets its contract: each arm is its line of the definition.
-use Rattle.machine.specs.All.{◌∙◌, needs, ne_eqb, signed}
+use Rattle.machine.specs.All.{◌∙◌, rules, ne_eqb, signed}
 use Rattle.evaluation.specs.{small, simple_term}
 use Rattle.evaluation.proofs as our
 use our.Signs.{back}
@@ -70,20 +70,20 @@ pub simple-term-spec : {M : Type 1} → f.Statement.statement M
 simple-term-spec =
     f.Tie.close
     (f.Tie.spec
-    (search needs)
-    (search needs)
-    (search needs)
-    (search needs)
-    (search needs)
-    (search needs)
-    (search needs)
-    (search needs)
-    (search needs)
-    (search needs)
-    (search needs)
-    (search needs)
-    (search needs)
-    (search needs)
+    (search rules)
+    (search rules)
+    (search rules)
+    (search rules)
+    (search rules)
+    (search rules)
+    (search rules)
+    (search rules)
+    (search rules)
+    (search rules)
+    (search rules)
+    (search rules)
+    (search rules)
+    (search rules)
     returns-case-0
     returns-case-1
     returns-case-2

@@ -1,5 +1,5 @@
 -- `terms::simple::small` meets its contract.
-use Rattle.machine.specs.All.{◌∙◌, needs, lt-ltb, le-ltb}
+use Rattle.machine.specs.All.{◌∙◌, rules, lt-ltb, le-ltb}
 use Rattle.std.proofs.Common.{w32}
 use mir.Facts.{to_z_pos}
 use Rattle.evaluation.specs.{small}
@@ -16,4 +16,4 @@ returns-else c =
     rw (le-ltb _ _ c.if1.left)
 
 pub small_spec : {M : Type 1} → f.Statement.statement M
-small_spec = f.Tie.close (f.Tie.spec (search needs) returns-n-below-positive-end returns-else)
+small_spec = f.Tie.close (f.Tie.spec (search rules) returns-n-below-positive-end returns-else)

@@ -1,5 +1,5 @@
 -- `terms::simple::tallied` meets its contract.
-use Rattle.machine.specs.All.{◌∙◌, needs, lt-ltb, le-ltb}
+use Rattle.machine.specs.All.{◌∙◌, rules, lt-ltb, le-ltb}
 use Rattle.evaluation.specs.{within}
 use Rattle.evaluation.proofs.simple.tallied as f
 
@@ -16,7 +16,7 @@ returns-else c =
 
 pub tallied-spec : {M : Type 1} → f.Statement.statement M
 tallied-spec = f.Tie.close (f.Tie.spec
-    (search needs)
-    (search needs)
+    (search rules)
+    (search rules)
     returns-i-below-size
     returns-else)

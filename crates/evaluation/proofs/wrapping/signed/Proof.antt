@@ -1,5 +1,5 @@
 -- `terms::wrapping::signed` meets its contract: bits below 2 to the 31 are the number itself, the others one below 0.
-use Rattle.machine.specs.All.{needs}
+use Rattle.machine.specs.All.{rules}
 use Rattle.std.proofs.Common.{w32}
 use mir.Facts.{to_z_pos}
 use Rattle.evaluation.proofs as our
@@ -21,9 +21,9 @@ returns-else c =
 pub signed-spec : {M : Type 1} → f.Statement.statement M
 signed-spec =
     f.Tie.close (f.Tie.spec
-    (search needs)
-    (search needs)
-    (search needs)
+    (search rules)
+    (search rules)
+    (search rules)
     sub-result-2
     returns-n-below-negative
     returns-else)

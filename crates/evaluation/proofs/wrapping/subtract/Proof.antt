@@ -1,5 +1,5 @@
 -- `terms::wrapping::subtract` meets its contract: the difference of the bits modulo 2 to the 32, read as signed.
-use Rattle.machine.specs.All.{ap, ◌∙◌, needs, low32}
+use Rattle.machine.specs.All.{ap, ◌∙◌, rules, low32}
 use Rattle.std.proofs.Common.{to_z-of_z}
 use Rattle.evaluation.proofs as our
 use our.Signs.{back, wrap_subtract}
@@ -21,4 +21,4 @@ returns c =
 pub subtract-spec : {M : Type 1} → f.Statement.statement M
 subtract-spec =
     f.Tie.close
-    (f.Tie.spec (search needs) (search needs) (search needs) (search needs) returns)
+    (f.Tie.spec (search rules) (search rules) (search rules) (search rules) returns)

@@ -1,5 +1,5 @@
 -- `advance` meets its contract: by cases on the times left.
-use Rattle.machine.specs.All.{eq-eqb, ne_eqb, needs}
+use Rattle.machine.specs.All.{eq-eqb, ne_eqb, rules}
 use Rattle.flow_laws.specs.Kinds.{advance_rows}
 use Rattle.flow.proofs.advancing.advance.Statement.{statement}
 use Rattle.flow.proofs.advancing.advance.Tie as tie
@@ -26,13 +26,13 @@ pub advance-spec : {M : Type 1} → statement M
 advance-spec =
     tie.close
     (tie.spec
-    (search needs)
-    (search needs)
-    (search needs)
-    (search needs)
-    (search needs)
+    (search rules)
+    (search rules)
+    (search rules)
+    (search rules)
+    (search rules)
     no-time-left
-    (search needs)
-    (search needs)
-    (search needs)
+    (search rules)
+    (search rules)
+    (search rules)
     delayed)

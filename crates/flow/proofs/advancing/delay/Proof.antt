@@ -1,7 +1,7 @@
 -- `delay` meets its contract: the sample, then the row.
 use Rattle.moves.specs.Motion.{moved}
 use Rattle.flow_laws.specs.Kinds.{delay_rows}
-use Rattle.machine.specs.All.{needs}
+use Rattle.machine.specs.All.{rules}
 use Rattle.flow.proofs.advancing.delay.Statement.{statement}
 use Rattle.flow.proofs.advancing.delay.Tie as tie
 
@@ -14,4 +14,4 @@ returns c =
     rw (← at-plus64.plus64.ensures, ← at-use-time.use-time.ensures, ← at-send-on.send-on.ensures)
 
 pub delay-spec : {M : Type 1} → statement M
-delay-spec = tie.close (tie.spec (search needs) (search needs) (search needs) (search needs) (search needs) returns)
+delay-spec = tie.close (tie.spec (search rules) (search rules) (search rules) (search rules) (search rules) returns)

@@ -1,7 +1,7 @@
 -- `send_on` meets its contract: on, then the FEL.
 use Rattle.moves.specs.Motion.{moved}
 use Rattle.flow_laws.specs.Kinds.{parked, send_on}
-use Rattle.machine.specs.All.{needs}
+use Rattle.machine.specs.All.{rules}
 use Rattle.flow.proofs.advancing.send_on.Statement.{statement}
 use Rattle.flow.proofs.advancing.send_on.Tie as tie
 
@@ -13,4 +13,4 @@ returns c =
     rw (← at-go-on.go_on.ensures, ← at-to-future.to-future.ensures)
 
 pub send-on-spec : {M : Type 1} → statement M
-send-on-spec = tie.close (tie.spec (search needs) (search needs) (search needs) returns)
+send-on-spec = tie.close (tie.spec (search rules) (search rules) (search rules) returns)

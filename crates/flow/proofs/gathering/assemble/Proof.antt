@@ -1,6 +1,6 @@
 -- `assemble` meets its contract: its operand, its list and the cell of its family.
 use Rattle.flow_laws.specs.Gathering.{assemble_rows}
-use Rattle.machine.specs.All.{needs}
+use Rattle.machine.specs.All.{rules}
 use Rattle.flow.proofs.gathering.assemble.Statement.{statement}
 use Rattle.flow.proofs.gathering.assemble.Tie as tie
 
@@ -17,4 +17,4 @@ returns c =
 
 pub assemble-spec : {M : Type 1} → statement M
 assemble-spec =
-    tie.close (tie.spec (search needs) (search needs) (search needs) (search needs) (search needs) (search needs) (search needs) returns)
+    tie.close (tie.spec (search rules) (search rules) (search rules) (search rules) (search rules) (search rules) (search rules) returns)

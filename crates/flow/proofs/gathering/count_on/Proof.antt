@@ -1,5 +1,5 @@
 -- `count_on` meets its contract, by cases on the count.
-use Rattle.machine.specs.All.{eq-eqb, ne_eqb, needs}
+use Rattle.machine.specs.All.{eq-eqb, ne_eqb, rules}
 use Rattle.moves.specs.Motion.{moved}
 use Rattle.flow_laws.specs.Gathering.{count_on}
 use Rattle.flow.proofs.gathering.count_on.Statement.{statement}
@@ -23,4 +23,4 @@ one_more c =
 
 pub count-on-spec : {M : Type 1} → statement M
 count-on-spec =
-    tie.close (tie.spec (search needs) (search needs) (search needs) last-comes (search needs) (search needs) (search needs) one_more)
+    tie.close (tie.spec (search rules) (search rules) (search rules) last-comes (search rules) (search rules) (search rules) one_more)

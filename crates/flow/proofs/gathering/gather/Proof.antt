@@ -1,5 +1,5 @@
 -- `gather` meets its contract, by cases on the row of the cell.
-use Rattle.machine.specs.All.{lt-ltb, le-ltb, needs}
+use Rattle.machine.specs.All.{lt-ltb, le-ltb, rules}
 use Rattle.flow_laws.specs.Gathering.{gather_rows}
 use Rattle.flow.proofs.gathering.gather.Statement.{statement}
 use Rattle.flow.proofs.gathering.gather.Tie as tie
@@ -21,4 +21,4 @@ first-of-family c =
     rw (← at_load.load.ensures, le-ltb _ 1024 at-else1.if1.left) at-gather-on.gather-on.ensures
 
 pub gather-spec : {M : Type 1} → statement M
-gather-spec = tie.close (tie.spec (search needs) (search needs) (search needs) family-waits (search needs) (search needs) first-of-family)
+gather-spec = tie.close (tie.spec (search rules) (search rules) (search rules) family-waits (search rules) (search rules) first-of-family)

@@ -1,6 +1,6 @@
 -- `gather_on` meets its contract: the count is written, then the wait begins.
 use Rattle.flow_laws.specs.Gathering.{gather_on}
-use Rattle.machine.specs.All.{needs}
+use Rattle.machine.specs.All.{rules}
 use Rattle.flow.proofs.gathering.gather_on.Statement.{statement}
 use Rattle.flow.proofs.gathering.gather_on.Tie as tie
 
@@ -12,4 +12,4 @@ returns c =
     rw (← at-write.write.ensures) at-begin-wait.begin-wait.ensures
 
 pub gather-on-spec : {M : Type 1} → statement M
-gather-on-spec = tie.close (tie.spec (search needs) (search needs) (search needs) returns)
+gather-on-spec = tie.close (tie.spec (search rules) (search rules) (search rules) returns)

@@ -1,8 +1,8 @@
 -- `later` meets its contract: by cases on the question; then the count.
-use Rattle.machine.specs.All.{eq-eqb, ne_eqb, needs}
+use Rattle.machine.specs.All.{eq-eqb, ne_eqb, rules}
 use Rattle.flow_laws.specs.Gathering.{later_rows}
-use Rattle.flow.proofs.gathering.later.Statement.{statement}
-use Rattle.flow.proofs.gathering.later.Tie as tie
+use Rattle.flow.proofs.gathering.Later.Statement.{statement}
+use Rattle.flow.proofs.gathering.Later.Tie as tie
 
 stopped : tie.Need-returns
 unfolding later_rows
@@ -34,14 +34,14 @@ pub later-spec : {M : Type 1} → statement M
 later-spec =
     tie.close
     (tie.spec
-    (search needs)
-    (search needs)
-    (search needs)
-    (search needs)
-    (search needs)
+    (search rules)
+    (search rules)
+    (search rules)
+    (search rules)
+    (search rules)
     stopped
-    (search needs)
-    (search needs)
-    (search needs)
-    (search needs)
+    (search rules)
+    (search rules)
+    (search rules)
+    (search rules)
     counted)

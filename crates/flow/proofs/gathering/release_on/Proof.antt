@@ -1,6 +1,6 @@
 -- `release_on` meets its contract: the row leaves its list and goes to REL.
 use Rattle.flow_laws.specs.Gathering.{release_on}
-use Rattle.machine.specs.All.{needs}
+use Rattle.machine.specs.All.{rules}
 use Rattle.flow.proofs.gathering.release_on.Statement.{statement}
 use Rattle.flow.proofs.gathering.release_on.Tie as tie
 
@@ -24,4 +24,4 @@ returns c =
 
 pub release-on-spec : {M : Type 1} → statement M
 release-on-spec =
-    tie.close (tie.spec (search needs) (search needs) (search needs) (search needs) (search needs) (search needs) (search needs) returns)
+    tie.close (tie.spec (search rules) (search rules) (search rules) (search rules) (search rules) (search rules) (search rules) returns)

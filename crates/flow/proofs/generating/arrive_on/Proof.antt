@@ -1,5 +1,5 @@
 -- `arrive_on` meets its contract: on, then the new one.
-use Rattle.machine.specs.All.{refl, needs}
+use Rattle.machine.specs.All.{refl, rules}
 use Rattle.moves.specs.Motion.{moved}
 use Rattle.flow_laws.specs.Kinds.{arrive_on}
 use Rattle.flow.proofs.generating.arrive_on.Statement.{statement}
@@ -14,4 +14,4 @@ returns c =
     rw (c.one-made.ensures, ← at_read.read.ensures, ← at-go-on.go_on.ensures) (at-arrives.arrives.ensures _ refl refl refl)
 
 pub arrive-on-spec : {M : Type 1} → statement M
-arrive-on-spec = tie.close (tie.spec (search needs) (search needs) (search needs) (search needs) (search needs) (search needs) returns)
+arrive-on-spec = tie.close (tie.spec (search rules) (search rules) (search rules) (search rules) (search rules) (search rules) returns)

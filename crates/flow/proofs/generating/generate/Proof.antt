@@ -1,5 +1,5 @@
 -- `generate` meets its contract: by cases on the times left.
-use Rattle.machine.specs.All.{eq-eqb, ne_eqb, needs}
+use Rattle.machine.specs.All.{eq-eqb, ne_eqb, rules}
 use Rattle.moves.specs.Motion.{moved}
 use Rattle.flow_laws.specs.Kinds.{generate_rows}
 use Rattle.flow.proofs.generating.generate.Statement.{statement}
@@ -30,16 +30,16 @@ pub generate-spec : {M : Type 1} → statement M
 generate-spec =
     tie.close
     (tie.spec
-    (search needs)
-    (search needs)
-    (search needs)
-    (search needs)
-    (search needs)
-    (search needs)
+    (search rules)
+    (search rules)
+    (search rules)
+    (search rules)
+    (search rules)
+    (search rules)
     list-used-up
-    (search needs)
-    (search needs)
-    (search needs)
-    (search needs)
-    (search needs)
+    (search rules)
+    (search rules)
+    (search rules)
+    (search rules)
+    (search rules)
     next-arrival)

@@ -1,5 +1,5 @@
 -- `generate_next` meets its contract: by cases on the question.
-use Rattle.machine.specs.All.{eq-eqb, ne_eqb, needs}
+use Rattle.machine.specs.All.{eq-eqb, ne_eqb, rules}
 use Rattle.flow_laws.specs.Kinds.{generate_with, generate_next}
 use Rattle.flow.proofs.generating.generate_next.Statement.{statement}
 use Rattle.flow.proofs.generating.generate_next.Tie as tie
@@ -26,12 +26,12 @@ pub generate-next-spec : {M : Type 1} → statement M
 generate-next-spec =
     tie.close
     (tie.spec
-    (search needs)
-    (search needs)
-    (search needs)
-    (search needs)
+    (search rules)
+    (search rules)
+    (search rules)
+    (search rules)
     stopped
-    (search needs)
-    (search needs)
-    (search needs)
+    (search rules)
+    (search rules)
+    (search rules)
     arrived)

@@ -1,6 +1,6 @@
 -- `ask_arrival` meets its contract: the two questions.
 use Rattle.flow_laws.specs.Questions.{ask_arrival}
-use Rattle.machine.specs.All.{needs}
+use Rattle.machine.specs.All.{rules}
 use Rattle.flow.proofs.questions.ask_arrival.Statement.{statement}
 use Rattle.flow.proofs.questions.ask_arrival.Tie as tie
 
@@ -9,4 +9,4 @@ unfolding ask_arrival
 returns c = rw (c.first-no.ensures, c.before.ask-time.ensures, c.before.before.ask-room.ensures)
 
 pub ask-arrival-spec : {M : Type 1} → statement M
-ask-arrival-spec = tie.close (tie.spec (search needs) (search needs) (search needs) returns)
+ask-arrival-spec = tie.close (tie.spec (search rules) (search rules) (search rules) returns)

@@ -1,5 +1,5 @@
 -- `ask_holding` meets its contract: by cases on the residue's count, then on the number's.
-use Rattle.machine.specs.All.{lt-ltb, le-ltb, eq-eqb, ne_eqb, needs}
+use Rattle.machine.specs.All.{lt-ltb, le-ltb, eq-eqb, ne_eqb, rules}
 use Rattle.layout.specs.All.{tally_size}
 use Rattle.flow_laws.specs.Questions.{ask_holding}
 use Rattle.flow.proofs.questions.ask_holding.Statement.{statement}
@@ -31,4 +31,4 @@ holds-one c =
 
 pub ask-holding-spec : {M : Type 1} → statement M
 ask-holding-spec =
-    tie.close (tie.spec short-tally (search needs) (search needs) (search needs) no-residue (search needs) holds-none holds-one)
+    tie.close (tie.spec short-tally (search rules) (search rules) (search rules) no-residue (search rules) holds-none holds-one)

@@ -1,6 +1,6 @@
 -- `priority` meets its contract: the operand, then the row.
 use Rattle.flow_laws.specs.Kinds.{priority_rows}
-use Rattle.machine.specs.All.{needs}
+use Rattle.machine.specs.All.{rules}
 use Rattle.flow.proofs.ranking.priority.Statement.{statement}
 use Rattle.flow.proofs.ranking.priority.Tie as tie
 
@@ -12,4 +12,4 @@ returns c =
     rw (← at-number.number.ensures) at-rank-on.rank-on.ensures
 
 pub priority-spec : {M : Type 1} → statement M
-priority-spec = tie.close (tie.spec (search needs) (search needs) (search needs) (search needs) returns)
+priority-spec = tie.close (tie.spec (search rules) (search rules) (search rules) (search rules) returns)

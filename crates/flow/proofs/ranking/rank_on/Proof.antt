@@ -1,7 +1,7 @@
 -- `rank_on` meets its contract: on, the priority, then REL.
 use Rattle.moves.specs.Motion.{moved}
 use Rattle.flow_laws.specs.Kinds.{parked, rank_on}
-use Rattle.machine.specs.All.{needs}
+use Rattle.machine.specs.All.{rules}
 use Rattle.flow.proofs.ranking.rank_on.Statement.{statement}
 use Rattle.flow.proofs.ranking.rank_on.Tie as tie
 
@@ -14,4 +14,4 @@ returns c =
     rw (← at-go-on.go_on.ensures, ← at-write.write.ensures, ← at-to-ready.to-ready.ensures)
 
 pub rank-on-spec : {M : Type 1} → statement M
-rank-on-spec = tie.close (tie.spec (search needs) (search needs) (search needs) (search needs) (search needs) returns)
+rank-on-spec = tie.close (tie.spec (search rules) (search rules) (search rules) (search rules) (search rules) returns)

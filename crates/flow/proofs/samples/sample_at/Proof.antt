@@ -1,6 +1,6 @@
 -- `sample_at` meets its contract: by cases on the number read.
 use Rattle.flow_laws.proofs.Answers.{sample-refused, sample-read}
-use Rattle.machine.specs.All.{needs}
+use Rattle.machine.specs.All.{rules}
 use Rattle.flow.proofs.samples.sample_at.Statement.{statement}
 use Rattle.flow.proofs.samples.sample_at.Tie as tie
 
@@ -15,4 +15,4 @@ number_read c =
     (at-read-number.read_number.ensures.1 _ _ at-v.v.given.1).1
 
 pub sample-at-spec : {M : Type 1} → statement M
-sample-at-spec = tie.close (tie.spec (search needs) (search needs) (λ c. search needs) no_number number_read)
+sample-at-spec = tie.close (tie.spec (search rules) (search rules) (λ c. search rules) no_number number_read)

@@ -1,6 +1,6 @@
 -- `use_time` meets its contract: the two numbers of the list.
 use Rattle.flow_laws.specs.Samples.{use_time}
-use Rattle.machine.specs.All.{needs}
+use Rattle.machine.specs.All.{rules}
 use Rattle.flow.proofs.samples.use_time.Statement.{statement}
 use Rattle.flow.proofs.samples.use_time.Tie as tie
 
@@ -17,12 +17,12 @@ pub use-time-spec : {M : Type 1} → statement M
 use-time-spec =
     tie.close
     (tie.spec
-    (search needs)
-    (search needs)
-    (search needs)
-    (search needs)
-    (search needs)
-    (search needs)
-    (search needs)
-    (search needs)
+    (search rules)
+    (search rules)
+    (search rules)
+    (search rules)
+    (search rules)
+    (search rules)
+    (search rules)
+    (search rules)
     returns)

@@ -1,5 +1,5 @@
 -- `arrives` meets its contract: the sample, then the new transaction.
-use Rattle.machine.specs.All.{ℕ, ◌≡◌, ap, List, needs}
+use Rattle.machine.specs.All.{ℕ, ◌≡◌, ap, List, rules}
 use Rattle.moves.specs.Motion.{Moved, moved, with_tally}
 use Rattle.flow_laws.specs.Sending.{arrives}
 use Rattle.flow.proofs.sending.arrives.Statement.{statement}
@@ -18,4 +18,4 @@ returns c =
     λ x e f g. rw (g, ← at-plus64.plus64.ensures, ← at-use-time.use-time.ensures) (beside _ _ _ (at-born.born.ensures _ e f))
 
 pub arrives-spec : {M : Type 1} → statement M
-arrives-spec = tie.close (tie.spec (search needs) (search needs) (search needs) (search needs) (search needs) returns)
+arrives-spec = tie.close (tie.spec (search rules) (search rules) (search rules) (search rules) (search rules) returns)

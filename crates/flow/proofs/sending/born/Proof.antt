@@ -1,5 +1,5 @@
 -- `born` meets its contract: by cases on the first free row.
-use Rattle.machine.specs.All.{lt-ltb, le-ltb, needs}
+use Rattle.machine.specs.All.{lt-ltb, le-ltb, rules}
 use Rattle.flow_laws.specs.Sending.{one_made, born}
 use Rattle.flow.proofs.sending.born.Statement.{statement}
 use Rattle.flow.proofs.sending.born.Tie as tie
@@ -20,4 +20,4 @@ born-at-row c =
     (at-born-at.born-at.ensures x e f)
 
 pub born-spec : {M : Type 1} → statement M
-born-spec = tie.close (tie.spec (search needs) (search needs) no_row (search needs) (search needs) born-at-row)
+born-spec = tie.close (tie.spec (search rules) (search rules) no_row (search rules) (search rules) born-at-row)

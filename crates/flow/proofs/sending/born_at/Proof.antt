@@ -1,6 +1,6 @@
 -- `born_at` meets its contract: the row, then the FEL.
 use Rattle.flow_laws.specs.Sending.{one_made, born_at}
-use Rattle.machine.specs.All.{needs}
+use Rattle.machine.specs.All.{rules}
 use Rattle.flow.proofs.sending.born_at.Statement.{statement}
 use Rattle.flow.proofs.sending.born_at.Tie as tie
 
@@ -13,4 +13,4 @@ returns c =
     λ x e f. rw (e, ← at-plus32.plus32.ensures, ← at-newborn.newborn.ensures) (at-row-to-future.row-to-future.ensures _ f)
 
 pub born-at-spec : {M : Type 1} → statement M
-born-at-spec = tie.close (tie.spec (search needs) (search needs) (search needs) (search needs) returns)
+born-at-spec = tie.close (tie.spec (search rules) (search rules) (search rules) (search rules) returns)

@@ -1,5 +1,5 @@
 -- `copy_one` meets its contract: by cases on the first free row.
-use Rattle.machine.specs.All.{lt-ltb, le-ltb, needs}
+use Rattle.machine.specs.All.{lt-ltb, le-ltb, rules}
 use Rattle.flow_laws.specs.Sending.{copy_one}
 use Rattle.flow.proofs.sending.copy_one.Statement.{statement}
 use Rattle.flow.proofs.sending.copy_one.Tie as tie
@@ -20,4 +20,4 @@ copied c =
     at-copy-to.copy-to.ensures
 
 pub copy-one-spec : {M : Type 1} → statement M
-copy-one-spec = tie.close (tie.spec (search needs) (search needs) no_row (search needs) (search needs) copied)
+copy-one-spec = tie.close (tie.spec (search rules) (search rules) no_row (search rules) (search rules) copied)

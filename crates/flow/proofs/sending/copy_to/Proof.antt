@@ -1,6 +1,6 @@
 -- `copy_to` meets its contract: the row, then REL.
 use Rattle.flow_laws.specs.Sending.{copy_to}
-use Rattle.machine.specs.All.{needs}
+use Rattle.machine.specs.All.{rules}
 use Rattle.flow.proofs.sending.copy_to.Statement.{statement}
 use Rattle.flow.proofs.sending.copy_to.Tie as tie
 
@@ -13,4 +13,4 @@ returns c =
     rw (← at-plus32.plus32.ensures, ← at_copy.copy.ensures) at-to-ready.to-ready.ensures
 
 pub copy-to-spec : {M : Type 1} → statement M
-copy-to-spec = tie.close (tie.spec (search needs) (search needs) (search needs) (search needs) returns)
+copy-to-spec = tie.close (tie.spec (search rules) (search rules) (search rules) (search rules) returns)

@@ -1,5 +1,5 @@
 -- `one_made` meets its contract, by cases on whether one was made.
-use Rattle.machine.specs.All.{ℕ, ◌≡◌, Bool, true, needs}
+use Rattle.machine.specs.All.{ℕ, ◌≡◌, Bool, true, rules}
 use Rattle.state.specs.{declared.scalars.Scalars.Scalars, All.put_serial, All.put_made}
 use Rattle.moves.specs.Motion.{next32}
 use Rattle.flow_laws.specs.Sending.{one_made}
@@ -24,4 +24,4 @@ unfolding one_made
 none c = rw c.if1.false
 
 pub one-made-spec : {M : Type 1} → statement M
-one-made-spec = tie.close (tie.spec (search needs) (search needs) (search needs) one_more none)
+one-made-spec = tie.close (tie.spec (search rules) (search rules) (search rules) one_more none)

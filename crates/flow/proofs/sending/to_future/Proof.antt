@@ -1,5 +1,5 @@
 -- `to_future` meets its contract: the row, then the scalars.
-use Rattle.machine.specs.All.{ℕ, ◌≡◌, refl, List, needs}
+use Rattle.machine.specs.All.{ℕ, ◌≡◌, refl, List, rules}
 use Rattle.state.specs.{declared.scalars.Scalars.Scalars, All.put_serial}
 use Rattle.moves.specs.Motion.{Moved, moved, next32}
 use Rattle.flow.proofs as our
@@ -18,4 +18,4 @@ returns c =
     next-serial _ _ _ _ _ at-by-fields.by-fields.ensures c.plus32.ensures (at-row-to-future.row-to-future.ensures _ refl)
 
 pub to-future-spec : {M : Type 1} → statement M
-to-future-spec = tie.close (tie.spec (search needs) (search needs) (search needs) (search needs) returns)
+to-future-spec = tie.close (tie.spec (search rules) (search rules) (search rules) (search rules) returns)

@@ -1,6 +1,6 @@
 -- `to_ready` meets its contract: the serial, then the list.
 use Rattle.flow_laws.specs.Sending.{to_ready}
-use Rattle.machine.specs.All.{needs}
+use Rattle.machine.specs.All.{rules}
 use Rattle.flow.proofs.sending.to_ready.Statement.{statement}
 use Rattle.flow.proofs.sending.to_ready.Tie as tie
 
@@ -13,4 +13,4 @@ returns c =
     rw (← at-plus32.plus32.ensures, at-put.put.ensures, at-write.write.ensures)
 
 pub to-ready-spec : {M : Type 1} → statement M
-to-ready-spec = tie.close (tie.spec (search needs) (search needs) (search needs) (search needs) returns)
+to-ready-spec = tie.close (tie.spec (search rules) (search rules) (search rules) (search rules) returns)

@@ -1,5 +1,5 @@
 -- `split` meets its contract: by cases on the question.
-use Rattle.machine.specs.All.{eq-eqb, ne_eqb, needs}
+use Rattle.machine.specs.All.{eq-eqb, ne_eqb, rules}
 use Rattle.flow_laws.specs.Kinds.{split_rows}
 use Rattle.flow.proofs.splitting.split.Statement.{statement}
 use Rattle.flow.proofs.splitting.split.Tie as tie
@@ -27,13 +27,13 @@ pub split-spec : {M : Type 1} → statement M
 split-spec =
     tie.close
     (tie.spec
-    (search needs)
-    (search needs)
-    (search needs)
-    (search needs)
+    (search rules)
+    (search rules)
+    (search rules)
+    (search rules)
     stopped
-    (search needs)
-    (search needs)
-    (search needs)
-    (search needs)
+    (search rules)
+    (search rules)
+    (search rules)
+    (search rules)
     copies-made)

@@ -1,5 +1,5 @@
 -- `split_on` meets its contract: on, then the copies.
-use Rattle.machine.specs.All.{arith, needs}
+use Rattle.machine.specs.All.{arith, rules}
 use Rattle.moves.specs.Motion.{moved}
 use Rattle.flow_laws.specs.Kinds.{split_on}
 use Rattle.flow_laws.proofs.Copies.{go-on-moved}
@@ -19,4 +19,4 @@ returns c =
     rw (← at-go-on.go_on.ensures) at_copies.copies.ensures
 
 pub split-on-spec : {M : Type 1} → statement M
-split-on-spec = tie.close (tie.spec (search needs) copies-requires (search needs) returns)
+split-on-spec = tie.close (tie.spec (search rules) copies-requires (search rules) returns)

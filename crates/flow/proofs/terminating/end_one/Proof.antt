@@ -1,5 +1,5 @@
 -- `end_one` meets its contract: each scalar.
-use Rattle.machine.specs.All.{ℕ, ◌-◌, ◌≡◌, cond, leb, needs}
+use Rattle.machine.specs.All.{ℕ, ◌-◌, ◌≡◌, cond, leb, rules}
 use Rattle.state.specs.declared.scalars.Scalars.{Scalars}
 use Rattle.state.specs.All.{put_note, put_end, put_counter, put_ended, put_moving}
 use Rattle.moves.specs.Motion.{next32}
@@ -22,4 +22,4 @@ returns c =
     ended _ _ _ _ _ _ at-by-fields.by-fields.ensures at-plus32.plus32.ensures at-less32.less32.ensures c.end_after.ensures
 
 pub end-one-spec : {M : Type 1} → statement M
-end-one-spec = tie.close (tie.spec (search needs) (search needs) (search needs) (search needs) returns)
+end-one-spec = tie.close (tie.spec (search rules) (search rules) (search rules) (search rules) returns)

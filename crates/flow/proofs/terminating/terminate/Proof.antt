@@ -1,5 +1,5 @@
 -- `terminate` meets its contract: by cases on the question; then the row and the scalars.
-use Rattle.machine.specs.All.{eq-eqb, ne_eqb, needs}
+use Rattle.machine.specs.All.{eq-eqb, ne_eqb, rules}
 use Rattle.flow_laws.specs.Kinds.{terminate_rows}
 use Rattle.flow.proofs.terminating.terminate.Statement.{statement}
 use Rattle.flow.proofs.terminating.terminate.Tie as tie
@@ -33,15 +33,15 @@ pub terminate-spec : {M : Type 1} → statement M
 terminate-spec =
     tie.close
     (tie.spec
-    (search needs)
-    (search needs)
-    (search needs)
-    (search needs)
-    (search needs)
-    (search needs)
-    (search needs)
+    (search rules)
+    (search rules)
+    (search rules)
+    (search rules)
+    (search rules)
+    (search rules)
+    (search rules)
     stopped
-    (search needs)
-    (search needs)
-    (search needs)
+    (search rules)
+    (search rules)
+    (search rules)
     ended)

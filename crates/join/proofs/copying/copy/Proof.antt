@@ -1,5 +1,5 @@
 -- `join::copying::copy` meets its contract. The invariant: the bytes so far stand there.
-use Rattle.machine.specs.All.{◌-◌, ◌≤◌, arith, ◌≡◌, refl, length, take, sets, needs}
+use Rattle.machine.specs.All.{◌-◌, ◌≤◌, arith, ◌≡◌, refl, length, take, sets, rules}
 use Rattle.join.proofs as our
 use our.Copies.{copy_step, copy_done}
 use our.copying.copy as f
@@ -17,7 +17,7 @@ loop-again : f.Tie.Need-loop-again Inv-loop μ-loop
 loop-again c =
     let at-loop : f.Tie.At-loop Inv-loop μ-loop = search in
     let start : f.Tie.Start Inv-loop μ-loop = search in (
-      (search needs),
+      (search rules),
       omega arith,
       copy_step _ _ _ _ _ (omega (arith, c.before.loop-test.taken, start.pre.0)) at-loop.loop.inv.2,
     )
@@ -31,5 +31,5 @@ returns c = copy_done _ _ _ _ _ _ c.before.loop.inv.1 c.loop-test.left c.before.
 pub copy_spec : {M : Type 1} → f.Statement.statement M
 copy_spec =
     f.Tie.close
-    (f.Tie.spec Inv-loop μ-loop loop-holds (search needs) (search needs) (search needs) (search needs)
-    (search needs) loop-again same_length returns)
+    (f.Tie.spec Inv-loop μ-loop loop-holds (search rules) (search rules) (search rules) (search rules)
+    (search rules) loop-again same_length returns)

@@ -1,5 +1,5 @@
 -- `join::copying::end_to_end` meets its contract.
-use Rattle.machine.specs.All.{length, take, needs}
+use Rattle.machine.specs.All.{length, take, rules}
 use Rattle.join.proofs as our
 use our.Outputs.{first-room, second-room, laid}
 use our.copying.end_to_end as f
@@ -33,4 +33,4 @@ returns c =
     at_copy.copy.ensures at-copy2.copy2.ensures
 
 pub end-to-end-spec : {M : Type 1} → f.Statement.statement M
-end-to-end-spec = f.Tie.close (f.Tie.spec copy-requires copy-requires-2 (search needs) returns)
+end-to-end-spec = f.Tie.close (f.Tie.spec copy-requires copy-requires-2 (search rules) returns)

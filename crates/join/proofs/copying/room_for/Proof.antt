@@ -2,7 +2,7 @@
 use Rattle.join.proofs as our
 use our.Outputs.{no-room-first, no-room-second, room-both}
 use our.copying.room_for as f
-use Rattle.machine.specs.All.{needs}
+use Rattle.machine.specs.All.{rules}
 
 returns : f.Tie.Need-returns
 returns c = no-room-first c.before.args.first.now c.before.args.second.now _ c.if1.taken
@@ -18,4 +18,4 @@ returns-3 c =
     room-both start.args.first.now start.args.second.now _ c.before.if1.left c.if2.left
 
 pub room-for-spec : {M : Type 1} → f.Statement.statement M
-room-for-spec = f.Tie.close (f.Tie.spec returns (search needs) returns-2 returns-3)
+room-for-spec = f.Tie.close (f.Tie.spec returns (search rules) returns-2 returns-3)

@@ -1,5 +1,5 @@
 -- `join::moving::moved` meets its contract: each arm is a line of `moved_by`.
-use Rattle.machine.specs.All.{needs, ne_eqb}
+use Rattle.machine.specs.All.{rules, ne_eqb}
 use Rattle.join_laws.specs.Rows.{moved_by}
 use Rattle.join.proofs.moving.moved as f
 
@@ -61,7 +61,7 @@ returns-10 c =
 pub moved-spec : {M : Type 1} → f.Statement.statement M
 moved-spec =
     f.Tie.close
-    (f.Tie.spec (search needs) (search needs) (search needs) (search needs) (search needs) (search needs) (search needs) (search needs)
-    (search needs) (search needs) (search needs) (search needs) (search needs) (search needs) (search needs) (search needs) (search needs)
-    (search needs) (search needs) (search needs) (search needs) (search needs) (search needs) (search needs) (search needs) (search needs)
+    (f.Tie.spec (search rules) (search rules) (search rules) (search rules) (search rules) (search rules) (search rules) (search rules)
+    (search rules) (search rules) (search rules) (search rules) (search rules) (search rules) (search rules) (search rules) (search rules)
+    (search rules) (search rules) (search rules) (search rules) (search rules) (search rules) (search rules) (search rules) (search rules)
     returns returns-2 returns-3 returns-4 returns-5 returns-6 returns-7 returns-8 returns-9 returns-10)

@@ -1,5 +1,5 @@
 -- The proof of `join::nested::items`, which calls itself: how many brackets may open falls, or how many terms are left.
-use Rattle.machine.specs.All.{arith, needs, ℕ, ◌+◌, ◌*◌, ◌<◌}
+use Rattle.machine.specs.All.{arith, rules, ℕ, ◌+◌, ◌*◌, ◌<◌}
 use Rattle.join_laws.proofs.RowSteps.{items-none, items-past, items-plain, items-flat, items_deep}
 use borrow.Fn.Kinds.{In}
 use borrow.Fn.PlainCycle.{Measures, is, falls, and}
@@ -62,7 +62,7 @@ items-add-next : (t : ℕ) → items-lts.Need-overflow-add-next (
   signs-in-reads.Asked,
   signs-in-reads.Learnt,
 ) (items_at t) items.Post
-items-add-next t c = search needs
+items-add-next t c = search rules
 
 items-add-next-2 : (t : ℕ) → items-lts.Need-overflow-add-next-2 (
   number-reads.Asked,
@@ -76,7 +76,7 @@ items-add-next-2 : (t : ℕ) → items-lts.Need-overflow-add-next-2 (
   signs-in-reads.Asked,
   signs-in-reads.Learnt,
 ) (items_at t) items.Post
-items-add-next-2 t c = search needs
+items-add-next-2 t c = search rules
 
 items-add-number : (t : ℕ) → items-lts.Need-overflow-add-number (
   number-reads.Asked,
@@ -90,7 +90,7 @@ items-add-number : (t : ℕ) → items-lts.Need-overflow-add-number (
   signs-in-reads.Asked,
   signs-in-reads.Learnt,
 ) (items_at t) items.Post
-items-add-number t c = search needs
+items-add-number t c = search rules
 
 items-number-requires : (t : ℕ) → items-lts.Need-number-requires (
   number-reads.Asked,
@@ -104,7 +104,7 @@ items-number-requires : (t : ℕ) → items-lts.Need-number-requires (
   signs-in-reads.Asked,
   signs-in-reads.Learnt,
 ) (items_at t) items.Post
-items-number-requires t c κs = search needs
+items-number-requires t c κs = search rules
 
 items-add-number-2 : (t : ℕ) → items-lts.Need-overflow-add-number-2 (
   number-reads.Asked,
@@ -118,7 +118,7 @@ items-add-number-2 : (t : ℕ) → items-lts.Need-overflow-add-number-2 (
   signs-in-reads.Asked,
   signs-in-reads.Learnt,
 ) (items_at t) items.Post
-items-add-number-2 t c = search needs
+items-add-number-2 t c = search rules
 
 items-add-number-3 : (t : ℕ) → items-lts.Need-overflow-add-number-3 (
   number-reads.Asked,
@@ -132,7 +132,7 @@ items-add-number-3 : (t : ℕ) → items-lts.Need-overflow-add-number-3 (
   signs-in-reads.Asked,
   signs-in-reads.Learnt,
 ) (items_at t) items.Post
-items-add-number-3 t c = search needs
+items-add-number-3 t c = search rules
 
 items-number-requires-2 : (t : ℕ) → items-lts.Need-number-requires-2 (
   number-reads.Asked,
@@ -146,7 +146,7 @@ items-number-requires-2 : (t : ℕ) → items-lts.Need-number-requires-2 (
   signs-in-reads.Asked,
   signs-in-reads.Learnt,
 ) (items_at t) items.Post
-items-number-requires-2 t c κs = search needs
+items-number-requires-2 t c κs = search rules
 
 items-item-requires : (t : ℕ) → items-lts.Need-item-requires (
   number-reads.Asked,
@@ -210,7 +210,7 @@ items-same-length : (t : ℕ) → items-lts.Need-same-length (
   signs-in-reads.Asked,
   signs-in-reads.Learnt,
 ) (items_at t) items.Post
-items-same-length t c = search needs
+items-same-length t c = search rules
 
 items-returns-3 : (t : ℕ) → items-lts.Need-returns-3 (
   number-reads.Asked,
@@ -279,7 +279,7 @@ items-same-length-2 : (t : ℕ) → items-lts.Need-same-length-2 (
   signs-in-reads.Asked,
   signs-in-reads.Learnt,
 ) (items_at t) items.Post
-items-same-length-2 t c = search needs
+items-same-length-2 t c = search rules
 
 items-returns-4 : (t : ℕ) → items-lts.Need-returns-4 (
   number-reads.Asked,
@@ -314,7 +314,7 @@ items-opened-requires : (t : ℕ) → items-lts.Need-opened-requires (
   signs-in-reads.Asked,
   signs-in-reads.Learnt,
 ) (items_at t) items.Post
-items-opened-requires t c κs = search needs
+items-opened-requires t c κs = search rules
 
 items-signs-in-requires : (t : ℕ) → items-lts.Need-signs-in-requires (
   number-reads.Asked,
@@ -328,7 +328,7 @@ items-signs-in-requires : (t : ℕ) → items-lts.Need-signs-in-requires (
   signs-in-reads.Asked,
   signs-in-reads.Learnt,
 ) (items_at t) items.Post
-items-signs-in-requires t c κs = search needs
+items-signs-in-requires t c κs = search rules
 
 items-sub-items-3 : (t : ℕ) → items-lts.Need-overflow-sub-items-3 (
   number-reads.Asked,
@@ -416,7 +416,7 @@ items-same-length-3 : (t : ℕ) → items-lts.Need-same-length-3 (
   signs-in-reads.Asked,
   signs-in-reads.Learnt,
 ) (items_at t) items.Post
-items-same-length-3 t c = search needs
+items-same-length-3 t c = search rules
 
 items-returns-5 : (t : ℕ) → items-lts.Need-returns-5 (
   number-reads.Asked,

@@ -1,5 +1,5 @@
 -- `join::nested::item` meets its contract.
-use Rattle.machine.specs.All.{needs}
+use Rattle.machine.specs.All.{rules}
 use Rattle.join_laws.proofs.RowSteps.{item-whole}
 use Rattle.join.proofs.nested.item as f
 
@@ -19,5 +19,5 @@ returns c =
 pub item-spec : {M : Type 1} → f.Statement.statement M
 item-spec =
     f.Tie.close
-    (f.Tie.spec (search needs) (search needs) (search needs) (search needs) (search needs) (search needs) (search needs) (search needs)
-    (search needs) returns)
+    (f.Tie.spec (search rules) (search rules) (search rules) (search rules) (search rules) (search rules) (search rules) (search rules)
+    (search rules) returns)

@@ -1,5 +1,5 @@
 -- `join::nested::sign` meets its contract.
-use Rattle.machine.specs.All.{needs}
+use Rattle.machine.specs.All.{rules}
 use Rattle.join_laws.proofs.RowSteps.{sign-none, sign-one}
 use Rattle.join.proofs.nested.sign as f
 
@@ -15,4 +15,4 @@ returns-2 c =
     at-emit.emit.ensures
 
 pub sign-spec : {M : Type 1} → f.Statement.statement M
-sign-spec = f.Tie.close (f.Tie.spec returns (search needs) (search needs) (search needs) returns-2)
+sign-spec = f.Tie.close (f.Tie.spec returns (search rules) (search rules) (search rules) returns-2)

@@ -1,5 +1,5 @@
 -- `join::nested::value` meets its contract.
-use Rattle.machine.specs.All.{needs}
+use Rattle.machine.specs.All.{rules}
 use Rattle.join_laws.proofs.RowSteps.{value-whole}
 use Rattle.join.proofs.nested.value as f
 
@@ -12,4 +12,4 @@ returns c =
     at-emit.emit.ensures at-items.items.ensures
 
 pub value_spec : {M : Type 1} → f.Statement.statement M
-value_spec = f.Tie.close (f.Tie.spec (search needs) (search needs) (search needs) (search needs) (search needs) returns)
+value_spec = f.Tie.close (f.Tie.spec (search rules) (search rules) (search rules) (search rules) (search rules) returns)

@@ -1,5 +1,5 @@
 -- `join::nested::values` meets its contract. The invariant: the values that are left, written behind what stands, give the whole.
-use Rattle.machine.specs.All.{◌-◌, ◌≤◌, arith, ◌≡◌, refl, length, needs}
+use Rattle.machine.specs.All.{◌-◌, ◌≤◌, arith, ◌≡◌, refl, length, rules}
 use Rattle.codec.specs.Writing.{written}
 use Rattle.join_laws.specs.Rows.{value_rows, puts}
 use Rattle.join_laws.proofs.RowSteps.{values-start, values-step, values-done}
@@ -21,7 +21,7 @@ loop-again c =
     let at_value : f.Tie.After-value Inv-loop μ-loop = search in
     let at-loop-test : f.Tie.In-loop Inv-loop μ-loop = search in
     let at-loop : f.Tie.At-loop Inv-loop μ-loop = search in (
-      (search needs),
+      (search rules),
       omega arith,
       values-step _ _ _ _ _ _ _ at-loop-test.loop-test.taken at-loop.loop.inv.2
           at_value.value.ensures,
@@ -36,5 +36,5 @@ returns c = values-done _ _ _ _ _ _ c.loop-test.left c.before.loop.inv.2
 pub values-spec : {M : Type 1} → f.Statement.statement M
 values-spec =
     f.Tie.close
-    (f.Tie.spec Inv-loop μ-loop loop-holds (search needs) (search needs) (search needs) (search needs)
-    (search needs) loop-again same_length returns)
+    (f.Tie.spec Inv-loop μ-loop loop-holds (search rules) (search rules) (search rules) (search rules)
+    (search rules) loop-again same_length returns)

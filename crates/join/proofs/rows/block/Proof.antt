@@ -1,5 +1,5 @@
 -- `join::rows::block` meets its contract.
-use Rattle.machine.specs.All.{needs}
+use Rattle.machine.specs.All.{rules}
 use Rattle.join_laws.proofs.RowSteps.{block-whole}
 use Rattle.join.proofs.rows.block as f
 
@@ -14,4 +14,4 @@ returns c =
     at-operands.operands.ensures
 
 pub block_spec : {M : Type 1} → f.Statement.statement M
-block_spec = f.Tie.close (f.Tie.spec (search needs) (search needs) (search needs) (search needs) (search needs) (search needs) returns)
+block_spec = f.Tie.close (f.Tie.spec (search rules) (search rules) (search rules) (search rules) (search rules) (search rules) returns)

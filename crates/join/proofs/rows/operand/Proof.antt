@@ -1,5 +1,5 @@
 -- `join::rows::operand` meets its contract.
-use Rattle.machine.specs.All.{arith, needs}
+use Rattle.machine.specs.All.{arith, rules}
 use Rattle.join_laws.proofs.RowSteps.{operand-none, operand-one}
 use Rattle.join.proofs.rows.operand as f
 
@@ -23,4 +23,4 @@ returns-2 c =
 
 pub operand-spec : {M : Type 1} → f.Statement.statement M
 operand-spec =
-    f.Tie.close (f.Tie.spec returns (search needs) (search needs) role-requires (search needs) (search needs) (search needs) returns-2)
+    f.Tie.close (f.Tie.spec returns (search rules) (search rules) role-requires (search rules) (search rules) (search rules) returns-2)

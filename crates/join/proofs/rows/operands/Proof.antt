@@ -1,5 +1,5 @@
 -- `join::rows::operands` meets its contract. The invariant: the operands that are left, written behind what stands, give the whole.
-use Rattle.machine.specs.All.{◌+◌, ◌-◌, ◌≤◌, arith, ◌≡◌, refl, length, needs}
+use Rattle.machine.specs.All.{◌+◌, ◌-◌, ◌≤◌, arith, ◌≡◌, refl, length, rules}
 use Rattle.codec.specs.Writing.{written}
 use Rattle.join_laws.specs.Rows.{operands_from, puts}
 use Rattle.join_laws.proofs.RowSteps.{operands-start, operands_step, operands-done}
@@ -24,7 +24,7 @@ loop-again c =
     let at-operand : f.Tie.After-operand Inv-loop μ-loop = search in
     let at-loop-test : f.Tie.In-loop Inv-loop μ-loop = search in
     let at-loop : f.Tie.At-loop Inv-loop μ-loop = search in (
-      (search needs),
+      (search rules),
       omega arith,
       operands_step _ _ _ _ _ _ _ _ _ at-loop-test.loop-test.taken
           at-loop.loop.inv.2 at-operand.operand.ensures,
@@ -39,4 +39,4 @@ returns c = operands-done _ _ _ _ _ _ _ _ c.loop-test.left c.before.loop.inv.2
 pub operands-spec : {M : Type 1} → f.Statement.statement M
 operands-spec =
     f.Tie.close
-    (f.Tie.spec Inv-loop μ-loop loop-holds (search needs) operand-requires (search needs) (search needs) loop-again same_length returns)
+    (f.Tie.spec Inv-loop μ-loop loop-holds (search rules) operand-requires (search rules) (search rules) loop-again same_length returns)

@@ -1,5 +1,5 @@
 -- `join::rows::role` meets its contract.
-use Rattle.machine.specs.All.{needs, eq-eqb, ne_eqb, lt-ltb, le-ltb}
+use Rattle.machine.specs.All.{rules, eq-eqb, ne_eqb, lt-ltb, le-ltb}
 use Rattle.join_laws.specs.Rows.{role_of}
 use Rattle.join.proofs.rows.role as f
 
@@ -24,4 +24,4 @@ unfolding role_of
 returns-4 c = rw (ne_eqb _ 15 c.before.if1.left, ne_eqb _ 16 c.if2.left)
 
 pub role-spec : {M : Type 1} → f.Statement.statement M
-role-spec = f.Tie.close (f.Tie.spec returns (search needs) returns-2 (search needs) returns-3 (search needs) returns-4)
+role-spec = f.Tie.close (f.Tie.spec returns (search rules) returns-2 (search rules) returns-3 (search rules) returns-4)

@@ -1,5 +1,5 @@
 -- `join::whole::all_blocks` meets its contract.
-use Rattle.machine.specs.All.{needs}
+use Rattle.machine.specs.All.{rules}
 use Rattle.join_laws.proofs.RowSteps.{all_blocks}
 use Rattle.join.proofs.whole.all_blocks as f
 
@@ -14,4 +14,4 @@ returns c =
     at-blocks3.blocks3.ensures
 
 pub all-blocks-spec : {M : Type 1} → f.Statement.statement M
-all-blocks-spec = f.Tie.close (f.Tie.spec (search needs) (search needs) (search needs) (search needs) (search needs) returns)
+all-blocks-spec = f.Tie.close (f.Tie.spec (search rules) (search rules) (search rules) (search rules) (search rules) returns)

@@ -1,5 +1,5 @@
 -- `join::whole::capacities` meets its contract. The invariant: the capacities that are left, written behind what stands, give the whole.
-use Rattle.machine.specs.All.{◌+◌, ◌-◌, ◌≤◌, arith, ◌≡◌, refl, length, needs}
+use Rattle.machine.specs.All.{◌+◌, ◌-◌, ◌≤◌, arith, ◌≡◌, refl, length, rules}
 use Rattle.codec.specs.Writing.{written}
 use Rattle.join_laws.specs.{Rows.puts, Whole.cell_row_lem}
 use Rattle.join_laws.proofs.RowSteps.{cells-start, cells-step, cells-done}
@@ -22,7 +22,7 @@ loop-again c =
     let at-number : f.Tie.After-number Inv-loop μ-loop = search in
     let at-loop-test : f.Tie.In-loop Inv-loop μ-loop = search in
     let at-loop : f.Tie.At-loop Inv-loop μ-loop = search in (
-      (search needs),
+      (search rules),
       omega arith,
       cells-step _ _ _ _ _ _ _ _ at-loop-test.loop-test.taken
           at-loop.loop.inv.2 at-number.number.ensures
@@ -38,5 +38,5 @@ returns c = cells-done _ _ _ _ _ _ c.loop-test.left c.before.loop.inv.2
 pub capacities-spec : {M : Type 1} → f.Statement.statement M
 capacities-spec =
     f.Tie.close
-    (f.Tie.spec Inv-loop μ-loop loop-holds (search needs) (search needs) (search needs) (search needs) (search needs)
-    (search needs) loop-again same_length returns)
+    (f.Tie.spec Inv-loop μ-loop loop-holds (search rules) (search rules) (search rules) (search rules) (search rules)
+    (search rules) loop-again same_length returns)

@@ -1,5 +1,5 @@
 -- `join::whole::model` meets its contract.
-use Rattle.machine.specs.All.{needs}
+use Rattle.machine.specs.All.{rules}
 use Rattle.join_laws.proofs.RowSteps.{model-whole}
 use Rattle.join.proofs.whole.model as f
 
@@ -12,4 +12,4 @@ returns c =
     at-things.things.ensures at-program.program.ensures
 
 pub model-spec : {M : Type 1} → f.Statement.statement M
-model-spec = f.Tie.close (f.Tie.spec (search needs) (search needs) (search needs) (search needs) returns)
+model-spec = f.Tie.close (f.Tie.spec (search rules) (search rules) (search rules) (search rules) returns)

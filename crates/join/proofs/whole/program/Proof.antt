@@ -1,5 +1,5 @@
 -- `join::whole::program` meets its contract.
-use Rattle.machine.specs.All.{needs}
+use Rattle.machine.specs.All.{rules}
 use Rattle.join_laws.proofs.RowSteps.{program-whole}
 use Rattle.join.proofs.whole.program as f
 
@@ -15,4 +15,4 @@ returns c =
     at-both3.both3.ensures at-all-blocks.all_blocks.ensures
 
 pub program-spec : {M : Type 1} → f.Statement.statement M
-program-spec = f.Tie.close (f.Tie.spec (search needs) (search needs) (search needs) (search needs) (search needs) returns)
+program-spec = f.Tie.close (f.Tie.spec (search rules) (search rules) (search rules) (search rules) (search rules) returns)

@@ -1,5 +1,5 @@
 -- `join::whole::servers` meets its contract.
-use Rattle.machine.specs.All.{arith, needs}
+use Rattle.machine.specs.All.{arith, rules}
 use Rattle.join_laws.proofs.RowSteps.{servers-whole}
 use Rattle.join.proofs.whole.servers as f
 
@@ -41,5 +41,5 @@ returns c =
 pub servers-spec : {M : Type 1} → f.Statement.statement M
 servers-spec =
     f.Tie.close
-    (f.Tie.spec (search needs) (search needs) (search needs) (search needs) (search needs) (search needs)
-    (search needs) add-capacities-2 capacities-requires-2 (search needs) returns)
+    (f.Tie.spec (search rules) (search rules) (search rules) (search rules) (search rules) (search rules)
+    (search rules) add-capacities-2 capacities-requires-2 (search rules) returns)

@@ -1,5 +1,5 @@
 -- `join::whole::things` meets its contract.
-use Rattle.machine.specs.All.{needs}
+use Rattle.machine.specs.All.{rules}
 use Rattle.join_laws.proofs.RowSteps.{things-whole}
 use Rattle.join.proofs.whole.things as f
 
@@ -24,4 +24,4 @@ returns c =
 pub things-spec : {M : Type 1} → f.Statement.statement M
 things-spec =
     f.Tie.close
-    (f.Tie.spec (search needs) (search needs) (search needs) (search needs) (search needs) values-requires-2 (search needs) returns)
+    (f.Tie.spec (search rules) (search rules) (search rules) (search rules) (search rules) values-requires-2 (search rules) returns)

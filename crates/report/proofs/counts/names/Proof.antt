@@ -1,5 +1,5 @@
 -- `names` meets its contract, by cases on operand and kind.
-use Rattle.machine.specs.All.{needs, eq-eqb, ne_eqb}
+use Rattle.machine.specs.All.{rules, eq-eqb, ne_eqb}
 use Rattle.report_laws.specs.Counts.{names}
 use Rattle.report.proofs.counts.names as f
 
@@ -47,12 +47,12 @@ pub names-spec : {M : Type 1} → f.Statement.statement M
 names-spec =
     f.Tie.close
     (f.Tie.spec
-    (search needs)
-    (search needs)
-    (search needs)
-    (search needs)
+    (search rules)
+    (search rules)
+    (search rules)
+    (search rules)
     returns-number-is-not-index
-    (search needs)
+    (search rules)
     returns-kind-is-first
     returns-kind-is-second
     returns-last)

@@ -1,5 +1,5 @@
 -- `put_queue` meets its contract: three numbers in order.
-use Rattle.machine.specs.All.{refl, ap₂, ◌∙◌, needs}
+use Rattle.machine.specs.All.{refl, ap₂, ◌∙◌, rules}
 use Rattle.report_laws.specs.{Writing.put, Writing.put_all, Counts.queue_row}
 use Rattle.report.proofs.counts.put_queue as f
 
@@ -19,5 +19,5 @@ returns c =
 
 pub put-queue-spec : {M : Type 1} → f.Statement.statement M
 put-queue-spec =
-    f.Tie.close (f.Tie.spec (search needs) (search needs) (search needs) (search needs) (search needs) (search needs)
-    (search needs) returns)
+    f.Tie.close (f.Tie.spec (search rules) (search rules) (search rules) (search rules) (search rules) (search rules)
+    (search rules) returns)

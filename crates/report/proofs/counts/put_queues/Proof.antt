@@ -1,5 +1,5 @@
 -- `put_queues` meets its contract. The invariant: the queues passed are written. The measure: the queues left.
-use Rattle.machine.specs.All.{◌-◌, ◌≤◌, ◌≡◌, refl, sym, ap, ◌∙◌, arith, needs, length}
+use Rattle.machine.specs.All.{◌-◌, ◌≤◌, ◌≡◌, refl, sym, ap, ◌∙◌, arith, rules, length}
 use Rattle.report_laws.specs.{Writing.written, Writing.put_all, Counts.queue_row, Counts.rows_to}
 use Rattle.report_laws.proofs.Writes.{rows_none, rows_next}
 use Rattle.report.proofs.counts.put_queues as f
@@ -16,8 +16,8 @@ loop-again : f.Tie.Need-loop-again Inv-loop μ-loop
 loop-again c =
     let at-put-queue : f.Tie.After-put-queue Inv-loop μ-loop = search in
     let at-loop : f.Tie.At-loop Inv-loop μ-loop = search in (
-      search needs,
-      search needs,
+      search rules,
+      search rules,
       at-put-queue.put-queue.ensures ∙ ap (put_all _) at-loop.loop.inv.2 ∙ sym (rows_next _ _ _),
     )
 
@@ -33,9 +33,9 @@ put-queues-spec =
     Inv-loop
     μ-loop
     (λ c. (refl, omega arith, rows_none _ _))
-    (search needs)
-    (search needs)
-    (search needs)
+    (search rules)
+    (search rules)
+    (search rules)
     loop-again
     (λ c. c.before.loop.inv.0)
     returns)

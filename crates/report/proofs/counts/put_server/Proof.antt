@@ -1,5 +1,5 @@
 -- `put_server` meets its contract: five numbers in order.
-use Rattle.machine.specs.All.{refl, ap₂, ◌∙◌, needs}
+use Rattle.machine.specs.All.{refl, ap₂, ◌∙◌, rules}
 use Rattle.report_laws.specs.{Writing.put, Writing.put_all, Counts.server_row}
 use Rattle.report.proofs.counts.put_server as f
 
@@ -27,5 +27,5 @@ returns c =
 
 pub put-server-spec : {M : Type 1} → f.Statement.statement M
 put-server-spec =
-    f.Tie.close (f.Tie.spec (search needs) (search needs) (search needs) (search needs) (search needs) (search needs) (search needs)
-    (search needs) (search needs) (search needs) (search needs) returns)
+    f.Tie.close (f.Tie.spec (search rules) (search rules) (search rules) (search rules) (search rules) (search rules) (search rules)
+    (search rules) (search rules) (search rules) (search rules) returns)

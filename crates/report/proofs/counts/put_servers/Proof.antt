@@ -1,5 +1,5 @@
 -- `put_servers` meets its contract. The invariant: the servers passed are written. The measure: the servers left.
-use Rattle.machine.specs.All.{◌-◌, ◌≤◌, ◌≡◌, refl, sym, ap, ◌∙◌, arith, needs, length}
+use Rattle.machine.specs.All.{◌-◌, ◌≤◌, ◌≡◌, refl, sym, ap, ◌∙◌, arith, rules, length}
 use Rattle.report_laws.specs.{Writing.written, Writing.put_all, Counts.server_row, Counts.rows_to}
 use Rattle.report_laws.proofs.Writes.{rows_none, rows_next}
 use Rattle.report.proofs.counts.put_servers as f
@@ -16,8 +16,8 @@ loop-again : f.Tie.Need-loop-again Inv-loop μ-loop
 loop-again c =
     let at-put-server : f.Tie.After-put-server Inv-loop μ-loop = search in
     let at-loop : f.Tie.At-loop Inv-loop μ-loop = search in (
-      search needs,
-      search needs,
+      search rules,
+      search rules,
       at-put-server.put-server.ensures ∙ ap (put_all _) at-loop.loop.inv.2 ∙ sym (rows_next _ _ _),
     )
 
@@ -33,9 +33,9 @@ put-servers-spec =
     Inv-loop
     μ-loop
     (λ c. (refl, omega arith, rows_none _ _))
-    (search needs)
-    (search needs)
-    (search needs)
+    (search rules)
+    (search rules)
+    (search rules)
     loop-again
     (λ c. c.before.loop.inv.0)
     returns)

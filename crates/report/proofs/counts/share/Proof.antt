@@ -1,5 +1,5 @@
 -- `share` meets its contract, by cases on whether the block names the index.
-use Rattle.machine.specs.All.{needs}
+use Rattle.machine.specs.All.{rules}
 use Rattle.report_laws.specs.Counts.{share}
 use Rattle.report.proofs.counts.share as f
 
@@ -16,8 +16,8 @@ returns-last c =
 
 pub share-spec : {M : Type 1} → f.Statement.statement M
 share-spec = f.Tie.close (f.Tie.spec
-    (search needs)
-    (search needs)
-    (search needs)
+    (search rules)
+    (search rules)
+    (search rules)
     returns-names
     returns-last)

@@ -1,5 +1,5 @@
 -- `set_returning` meets its contract: a mark that stands stays; else what is written is made of what was read.
-use Rattle.machine.specs.All.{sym, ap, ◌∙◌, ◌%◌, needs}
+use Rattle.machine.specs.All.{sym, ap, ◌∙◌, ◌%◌, rules}
 use Rattle.rows_laws.proofs.Buffer.Store.{returning_kept}
 use Rattle.rows.proofs.cells.set_returning.Statement.{statement}
 use Rattle.rows.proofs.cells.set_returning.Tie as tie
@@ -15,4 +15,4 @@ marked c =
 
 pub set-returning-spec : {M : Type 1} → statement M
 set-returning-spec =
-    tie.close (tie.spec (search needs) (search needs) same-mark (search needs) (search needs) (search needs) (search needs) marked)
+    tie.close (tie.spec (search rules) (search rules) same-mark (search rules) (search rules) (search rules) (search rules) marked)

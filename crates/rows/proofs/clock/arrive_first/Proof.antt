@@ -1,5 +1,5 @@
 -- `arrive_first` meets its contract, by cases on whether the FEL has a first.
-use Rattle.machine.specs.All.{lt-ltb, le-ltb, needs}
+use Rattle.machine.specs.All.{lt-ltb, le-ltb, rules}
 use Rattle.rows_laws.specs.All.{arrive_first}
 use Rattle.rows.proofs.clock.arrive_first.Statement.{statement}
 use Rattle.rows.proofs.clock.arrive_first.Tie as tie
@@ -17,4 +17,4 @@ arrives c =
     rw (← at-get.get.ensures, lt-ltb _ 1024 at-else1.if1.left) at-arrive-row.arrive-row.ensures
 
 pub arrive-first-spec : {M : Type 1} → statement M
-arrive-first-spec = tie.close (tie.spec (search needs) (search needs) fel-empty (search needs) (search needs) arrives)
+arrive-first-spec = tie.close (tie.spec (search rules) (search rules) fel-empty (search rules) (search rules) arrives)

@@ -1,6 +1,6 @@
 -- `arrive_row` meets its contract: the steps in order.
 use Rattle.rows_laws.specs.All.{arrive_row}
-use Rattle.machine.specs.All.{needs}
+use Rattle.machine.specs.All.{rules}
 use Rattle.rows.proofs.clock.arrive_row.Statement.{statement}
 use Rattle.rows.proofs.clock.arrive_row.Tie as tie
 
@@ -14,4 +14,4 @@ returns c =
     rw (at-put.put.ensures, at-write.write.ensures, at-set-returning.set-returning.ensures, at-cancel.cancel.ensures)
 
 pub arrive-row-spec : {M : Type 1} → statement M
-arrive-row-spec = tie.close (tie.spec (search needs) (search needs) (search needs) (search needs) (search needs) returns)
+arrive-row-spec = tie.close (tie.spec (search rules) (search rules) (search rules) (search rules) (search rules) returns)

@@ -1,5 +1,5 @@
 -- `back_before` meets its contract, by cases on the last row.
-use Rattle.machine.specs.All.{sym, ◌∙◌, needs}
+use Rattle.machine.specs.All.{sym, ◌∙◌, rules}
 use Rattle.rows_laws.specs.All.{back_before}
 use Rattle.rows.proofs.lines.back_before.Statement.{statement}
 use Rattle.rows.proofs.lines.back_before.Tie as tie
@@ -13,4 +13,4 @@ unfolding back_before
 searched c = rw (sym c.before.before.last-Meets.ensures ∙ c.before.if1.false) c.last-cell.ensures
 
 pub back-before-spec : {M : Type 1} → statement M
-back-before-spec = tie.close (tie.spec (search needs) last_fits (search needs) (search needs) searched)
+back-before-spec = tie.close (tie.spec (search rules) last_fits (search rules) (search rules) searched)

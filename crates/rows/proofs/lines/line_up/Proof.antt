@@ -1,5 +1,5 @@
 -- `line_up` meets its contract, by the edition.
-use Rattle.machine.specs.All.{eq-eqb, ne_eqb, needs}
+use Rattle.machine.specs.All.{eq-eqb, ne_eqb, rules}
 use Rattle.rows_laws.specs.All.{line_up}
 use Rattle.rows.proofs.lines.line_up.Statement.{statement}
 use Rattle.rows.proofs.lines.line_up.Tie as tie
@@ -20,4 +20,4 @@ second-edition c =
     rw (ne_eqb _ 1 at-else1.if1.left, ← at-second-spot.second-spot.ensures) at-insert-at.insert-at.ensures
 
 pub line-up-spec : {M : Type 1} → statement M
-line-up-spec = tie.close (tie.spec (search needs) (search needs) first-edition (search needs) (search needs) (search needs) second-edition)
+line-up-spec = tie.close (tie.spec (search rules) (search rules) first-edition (search rules) (search rules) (search rules) second-edition)

@@ -1,6 +1,6 @@
 -- `clear_parameters` meets its contract: the writes in order.
 use Rattle.rows_laws.specs.All.{clear_parameters}
-use Rattle.machine.specs.All.{needs}
+use Rattle.machine.specs.All.{rules}
 use Rattle.rows.proofs.make.clear_parameters.Statement.{statement}
 use Rattle.rows.proofs.make.clear_parameters.Tie as tie
 
@@ -14,4 +14,4 @@ returns c =
     rw (at-write4.write4.ensures, at-write3.write3.ensures, at-write2.write2.ensures, at-write.write.ensures)
 
 pub clear-parameters-spec : {M : Type 1} → statement M
-clear-parameters-spec = tie.close (tie.spec (search needs) (search needs) (search needs) (search needs) (search needs) returns)
+clear-parameters-spec = tie.close (tie.spec (search rules) (search rules) (search rules) (search rules) (search rules) returns)

@@ -1,6 +1,6 @@
 -- `copy` meets its contract: the description, then the parameters.
 use Rattle.rows_laws.specs.All.{copy_at}
-use Rattle.machine.specs.All.{needs}
+use Rattle.machine.specs.All.{rules}
 use Rattle.rows.proofs.make.copy.Statement.{statement}
 use Rattle.rows.proofs.make.copy.Tie as tie
 
@@ -14,4 +14,4 @@ returns c =
     rw (← at_read.read.ensures, ← at-read2.read2.ensures, at-copy-parameters.copy-parameters.ensures, at-describe.describe.ensures)
 
 pub copy_spec : {M : Type 1} → statement M
-copy_spec = tie.close (tie.spec (search needs) (search needs) (search needs) (search needs) (search needs) returns)
+copy_spec = tie.close (tie.spec (search rules) (search rules) (search rules) (search rules) (search rules) returns)

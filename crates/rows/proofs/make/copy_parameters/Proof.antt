@@ -1,6 +1,6 @@
 -- `copy_parameters` meets its contract: the writes in order, of what was read.
 use Rattle.rows_laws.specs.All.{copy_parameters}
-use Rattle.machine.specs.All.{needs}
+use Rattle.machine.specs.All.{rules}
 use Rattle.rows.proofs.make.copy_parameters.Statement.{statement}
 use Rattle.rows.proofs.make.copy_parameters.Tie as tie
 
@@ -30,13 +30,13 @@ pub copy-parameters-spec : {M : Type 1} → statement M
 copy-parameters-spec =
     tie.close
     (tie.spec
-    (search needs)
-    (search needs)
-    (search needs)
-    (search needs)
-    (search needs)
-    (search needs)
-    (search needs)
-    (search needs)
-    (search needs)
+    (search rules)
+    (search rules)
+    (search rules)
+    (search rules)
+    (search rules)
+    (search rules)
+    (search rules)
+    (search rules)
+    (search rules)
     returns)

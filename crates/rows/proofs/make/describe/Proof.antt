@@ -1,6 +1,6 @@
 -- `describe` meets its contract: the writes in order.
 use Rattle.rows_laws.specs.All.{describe}
-use Rattle.machine.specs.All.{needs}
+use Rattle.machine.specs.All.{rules}
 use Rattle.rows.proofs.make.describe.Statement.{statement}
 use Rattle.rows.proofs.make.describe.Tie as tie
 
@@ -26,12 +26,12 @@ pub describe-spec : {M : Type 1} → statement M
 describe-spec =
     tie.close
     (tie.spec
-    (search needs)
-    (search needs)
-    (search needs)
-    (search needs)
-    (search needs)
-    (search needs)
-    (search needs)
-    (search needs)
+    (search rules)
+    (search rules)
+    (search rules)
+    (search rules)
+    (search rules)
+    (search rules)
+    (search rules)
+    (search rules)
     returns)

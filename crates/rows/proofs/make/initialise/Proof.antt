@@ -1,6 +1,6 @@
 -- `initialise` meets its contract: the loops in order, the heap emptied between.
 use Rattle.rows_laws.specs.All.{initial}
-use Rattle.machine.specs.All.{needs}
+use Rattle.machine.specs.All.{rules}
 use Rattle.rows.proofs.make.initialise.Statement.{statement}
 use Rattle.rows.proofs.make.initialise.Tie as tie
 
@@ -14,4 +14,4 @@ returns c =
     rw (at-free-rows.free-rows.ensures, at-loose-rows.loose-rows.ensures, at_set.set.ensures, at-empty-lists.empty-lists.ensures)
 
 pub initialise-spec : {M : Type 1} → statement M
-initialise-spec = tie.close (tie.spec (search needs) (search needs) (search needs) (search needs) (search needs) returns)
+initialise-spec = tie.close (tie.spec (search rules) (search rules) (search rules) (search rules) (search rules) returns)

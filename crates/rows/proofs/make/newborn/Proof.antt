@@ -1,6 +1,6 @@
 -- `newborn` meets its contract: the description, then the parameters.
 use Rattle.rows_laws.specs.All.{newborn_at}
-use Rattle.machine.specs.All.{needs}
+use Rattle.machine.specs.All.{rules}
 use Rattle.rows.proofs.make.newborn.Statement.{statement}
 use Rattle.rows.proofs.make.newborn.Tie as tie
 
@@ -12,4 +12,4 @@ returns c =
     rw (at-clear-parameters.clear-parameters.ensures, at-describe.describe.ensures)
 
 pub newborn-spec : {M : Type 1} → statement M
-newborn-spec = tie.close (tie.spec (search needs) (search needs) (search needs) returns)
+newborn-spec = tie.close (tie.spec (search rules) (search rules) (search rules) returns)

@@ -1,5 +1,5 @@
 -- `outranks` meets its contract, by cases on the priorities.
-use Rattle.machine.specs.All.{arith, lt-ltb, le-ltb, eq-eqb, ne_eqb, needs}
+use Rattle.machine.specs.All.{arith, lt-ltb, le-ltb, eq-eqb, ne_eqb, rules}
 use Rattle.rows_laws.specs.All.{outranks}
 use Rattle.rows.proofs.order.outranks.Statement.{statement}
 use Rattle.rows.proofs.order.outranks.Tie as tie
@@ -38,4 +38,4 @@ by-serial c =
     )
 
 pub outranks-spec : {M : Type 1} → statement M
-outranks-spec = tie.close (tie.spec (search needs) (search needs) higher lower (search needs) (search needs) by-serial)
+outranks-spec = tie.close (tie.spec (search rules) (search rules) higher lower (search rules) (search rules) by-serial)

@@ -1,5 +1,5 @@
 -- `sooner_at` meets its contract, by cases on the times.
-use Rattle.machine.specs.All.{arith, lt-ltb, le-ltb, eq-eqb, ne_eqb, needs}
+use Rattle.machine.specs.All.{arith, lt-ltb, le-ltb, eq-eqb, ne_eqb, rules}
 use Rattle.rows_laws.specs.All.{sooner_at}
 use Rattle.rows.proofs.order.sooner_at.Statement.{statement}
 use Rattle.rows.proofs.order.sooner_at.Tie as tie
@@ -26,4 +26,4 @@ by_rank c =
     c.outranks.ensures
 
 pub sooner-at-spec : {M : Type 1} → statement M
-sooner-at-spec = tie.close (tie.spec (search needs) earlier later (search needs) by_rank)
+sooner-at-spec = tie.close (tie.spec (search rules) earlier later (search rules) by_rank)

@@ -1,5 +1,5 @@
 -- `after` meets its contract, by cases on the row of the cell.
-use Rattle.machine.specs.All.{lt-ltb, le-ltb, needs}
+use Rattle.machine.specs.All.{lt-ltb, le-ltb, rules}
 use Rattle.rows_laws.specs.All.{after}
 use Rattle.rows.proofs.wake.after.Statement.{statement}
 use Rattle.rows.proofs.wake.after.Tie as tie
@@ -13,4 +13,4 @@ unfolding after
 list-ends c = rw (← c.before.load.ensures, le-ltb _ 1024 c.if1.false)
 
 pub after-spec : {M : Type 1} → statement M
-after-spec = tie.close (tie.spec (search needs) (search needs) next list-ends)
+after-spec = tie.close (tie.spec (search rules) (search rules) next list-ends)

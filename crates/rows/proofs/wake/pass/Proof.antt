@@ -1,6 +1,6 @@
 -- `pass` meets its contract, by cases on whether the row moves.
 use Rattle.rows_laws.specs.All.{pass_rows, pass_cell}
-use Rattle.machine.specs.All.{needs}
+use Rattle.machine.specs.All.{rules}
 use Rattle.rows.proofs.wake.pass.Statement.{statement}
 use Rattle.rows.proofs.wake.pass.Tie as tie
 
@@ -16,4 +16,4 @@ unfolding pass_rows pass_cell
 passed c = (rw c.before.before.if1.false c.after.ensures, rw c.before.before.if1.false)
 
 pub pass_spec : {M : Type 1} → statement M
-pass_spec = tie.close (tie.spec (search needs) (search needs) woken (search needs) (search needs) passed)
+pass_spec = tie.close (tie.spec (search rules) (search rules) woken (search rules) (search rules) passed)

@@ -1,5 +1,5 @@
 -- `wake_at` meets its contract, by cases on the row of the cell.
-use Rattle.machine.specs.All.{lt-ltb, le-ltb, needs}
+use Rattle.machine.specs.All.{lt-ltb, le-ltb, rules}
 use Rattle.rows_laws.specs.All.{wake_at}
 use Rattle.rows.proofs.wake.wake_at.Statement.{statement}
 use Rattle.rows.proofs.wake.wake_at.Tie as tie
@@ -17,4 +17,4 @@ woken c =
     rw (← at_load.load.ensures, lt-ltb _ 1024 at-else1.if1.left) at-wake-row.wake-row.ensures
 
 pub wake-at-spec : {M : Type 1} → statement M
-wake-at-spec = tie.close (tie.spec (search needs) (search needs) list-ends (search needs) (search needs) woken)
+wake-at-spec = tie.close (tie.spec (search rules) (search rules) list-ends (search rules) (search rules) woken)

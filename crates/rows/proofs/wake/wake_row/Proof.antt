@@ -1,6 +1,6 @@
 -- `wake_row` meets its contract: the steps in order.
 use Rattle.rows_laws.specs.All.{wake_row}
-use Rattle.machine.specs.All.{needs}
+use Rattle.machine.specs.All.{rules}
 use Rattle.rows.proofs.wake.wake_row.Statement.{statement}
 use Rattle.rows.proofs.wake.wake_row.Tie as tie
 
@@ -13,4 +13,4 @@ returns c =
     rw (at-put.put.ensures, at-set-returning.set-returning.ensures, at-remove-at.remove-at.ensures)
 
 pub wake-row-spec : {M : Type 1} → statement M
-wake-row-spec = tie.close (tie.spec (search needs) (search needs) (search needs) (search needs) returns)
+wake-row-spec = tie.close (tie.spec (search rules) (search rules) (search rules) (search rules) returns)

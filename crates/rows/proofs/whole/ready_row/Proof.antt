@@ -1,6 +1,6 @@
 -- `ready_row` meets its contract: both numbers are read first.
 use Rattle.rows_laws.specs.All.{ready_row}
-use Rattle.machine.specs.All.{needs}
+use Rattle.machine.specs.All.{rules}
 use Rattle.rows.proofs.whole.ready_row.Statement.{statement}
 use Rattle.rows.proofs.whole.ready_row.Tie as tie
 
@@ -12,14 +12,14 @@ pub ready-row-spec : {M : Type 1} → statement M
 ready-row-spec =
     tie.close
     (tie.spec
-    (search needs)
-    (search needs)
-    (search needs)
-    (search needs)
-    (search needs)
-    (search needs)
-    (search needs)
-    (search needs)
-    (search needs)
-    (search needs)
+    (search rules)
+    (search rules)
+    (search rules)
+    (search rules)
+    (search rules)
+    (search rules)
+    (search rules)
+    (search rules)
+    (search rules)
+    (search rules)
     returns)

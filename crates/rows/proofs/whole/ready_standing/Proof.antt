@@ -1,5 +1,5 @@
 -- `ready_standing` meets its contract, by cases on the place.
-use Rattle.machine.specs.All.{eq-eqb, ne_eqb, needs}
+use Rattle.machine.specs.All.{eq-eqb, ne_eqb, rules}
 use Rattle.rows_laws.specs.All.{ready_standing}
 use Rattle.rows.proofs.whole.ready_standing.Statement.{statement}
 use Rattle.rows.proofs.whole.ready_standing.Tie as tie
@@ -13,4 +13,4 @@ unfolding ready_standing
 returns-2 c = rw (ne_eqb _ _ c.if1.false)
 
 pub ready-standing-spec : {M : Type 1} → statement M
-ready-standing-spec = tie.close (tie.spec (search needs) (search needs) returns returns-2)
+ready-standing-spec = tie.close (tie.spec (search rules) (search rules) returns returns-2)

@@ -1,6 +1,6 @@
 -- `files::read_all` meets its contract and ends: each turn leaves fewer bytes of the buffer. The loop's invariant: `done` is within the
 -- buffer, whose length stays.
-use Rattle.machine.specs.All.{◌≤◌, ◌-◌, pos_of_ne-zero, arith, ◌≡◌, sym, length-take-le, length, length-take, length-drop, needs}
+use Rattle.machine.specs.All.{◌≤◌, ◌-◌, pos_of_ne-zero, arith, ◌≡◌, sym, length-take-le, length, length-take, length-drop, rules}
 use Rattle.io.specs.Counts.{IsPrefixLen}
 use Rattle.runmodel.proofs as our
 use our.Reading.{failed, counted}
@@ -40,19 +40,19 @@ read-all-spec =
     (f.Tie.spec
     Inv-loop
     μ-loop
-    (search needs)
-    (search needs)
-    (search needs)
-    (search needs)
-    (search needs)
-    (search needs)
-    (search needs)
+    (search rules)
+    (search rules)
+    (search rules)
+    (search rules)
+    (search rules)
+    (search rules)
+    (search rules)
     (λ c. failed (λ k. IsPrefixLen k _))
-    (search needs)
-    (search needs)
+    (search rules)
+    (search rules)
     returns-n-is-0
     add_done
     (λ c. omega (arith, pos_of_ne-zero c.if1.left))
     loop-again
-    (search needs)
+    (search rules)
     returns-last)

@@ -1,5 +1,5 @@
 -- `files::read_file` meets its contract.
-use Rattle.machine.specs.All.{needs}
+use Rattle.machine.specs.All.{rules}
 use Rattle.io.specs.Counts.{IsPrefixLen}
 use Rattle.runmodel.proofs as our
 use our.Reading.{failed}
@@ -9,10 +9,10 @@ pub read-file-spec : {M : Type 1} → f.Statement.statement M
 read-file-spec =
     f.Tie.close
     (f.Tie.spec
-    (search needs)
-    (search needs)
+    (search rules)
+    (search rules)
     (λ c. failed (λ k. IsPrefixLen k _))
-    (search needs)
-    (search needs)
-    (search needs)
-    (λ c. search needs))
+    (search rules)
+    (search rules)
+    (search rules)
+    (λ c. search rules))

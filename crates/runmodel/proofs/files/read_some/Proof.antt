@@ -1,5 +1,5 @@
 -- `files::read_some` meets its contract.
-use Rattle.machine.specs.All.{◌≤◌, arith, length, needs}
+use Rattle.machine.specs.All.{◌≤◌, arith, length, rules}
 use Rattle.runmodel.proofs as our
 use our.Reading.{failed, counted}
 use our.files.read_some as f
@@ -19,10 +19,10 @@ pub read-some-spec : {M : Type 1} → f.Statement.statement M
 read-some-spec =
     f.Tie.close
     (f.Tie.spec
-    (search needs)
-    (search needs)
-    (search needs)
+    (search rules)
+    (search rules)
+    (search rules)
     returns-got-below-0
-    (search needs)
-    (search needs)
+    (search rules)
+    (search rules)
     returns-last)

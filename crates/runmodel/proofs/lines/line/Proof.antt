@@ -1,5 +1,5 @@
 -- `lines::line` meets its contract: the letters, then the numbers.
-use Rattle.machine.specs.All.{needs}
+use Rattle.machine.specs.All.{rules}
 use Rattle.runmodel.proofs as our
 use our.Stored.{line-stored}
 use our.lines.line as f
@@ -11,4 +11,4 @@ returns c =
     line-stored _ _ _ _ _ _ start.pre at-spell.spell.ensures c.numerals.ensures
 
 pub line-spec : {M : Type 1} → f.Statement.statement M
-line-spec = f.Tie.close (f.Tie.spec (search needs) (search needs) returns)
+line-spec = f.Tie.close (f.Tie.spec (search rules) (search rules) returns)

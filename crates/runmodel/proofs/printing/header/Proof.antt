@@ -2,7 +2,7 @@
 use Rattle.runmodel.proofs as our
 use our.Counting.{header-model, header-none}
 use our.printing.header as f
-use Rattle.machine.specs.All.{needs}
+use Rattle.machine.specs.All.{rules}
 
 returns-model : f.Tie.Need-returns
 returns-model c =
@@ -18,9 +18,9 @@ pub header-spec : {M : Type 1} → f.Statement.statement M
 header-spec =
     f.Tie.close
     (f.Tie.spec
-    (λ c κs. search needs)
-    (search needs)
-    (search needs)
-    (λ c κs. search needs)
+    (λ c κs. search rules)
+    (search rules)
+    (search rules)
+    (λ c κs. search rules)
     returns-model
     returns-refused)

@@ -2,7 +2,7 @@
 use Rattle.runmodel.proofs as our
 use our.Counting.{field-none, field_read}
 use our.printing.number_at as f
-use Rattle.machine.specs.All.{needs}
+use Rattle.machine.specs.All.{rules}
 
 returns-number : f.Tie.Need-returns
 returns-number c =
@@ -18,8 +18,8 @@ returns-refused c =
 pub number-at-spec : {M : Type 1} → f.Statement.statement M
 number-at-spec =
     f.Tie.close (f.Tie.spec
-    (λ c κs. search needs)
-    (search needs)
-    (search needs)
+    (λ c κs. search rules)
+    (search rules)
+    (search rules)
     returns-number
     returns-refused)

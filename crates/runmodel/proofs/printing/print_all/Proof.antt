@@ -1,5 +1,5 @@
 -- `printing::print_all` is safe and ends. The measure is what is left of the servers or queues.
-use Rattle.machine.specs.All.{◌≤◌, ◌-◌, arith, ◌≡◌, sym, ap, length, length-set, length-take, length-sets, length-take-le, needs}
+use Rattle.machine.specs.All.{◌≤◌, ◌-◌, arith, ◌≡◌, sym, ap, length, length-set, length-take, length-sets, length-take-le, rules}
 use Rattle.runmodel.proofs.printing.print_all as f
 
 abbrev Inv-loop : f.Tie.InvT-loop
@@ -31,15 +31,15 @@ print-all-spec =
     (f.Tie.spec
     Inv-loop
     μ-loop
-    (search needs)
-    (search needs)
-    (search needs)
-    (search needs)
-    (search needs)
+    (search rules)
+    (search rules)
+    (search rules)
+    (search rules)
+    (search rules)
     array-share-prefix-numbers
     slice-aggregate-print-line
     print-line-requires
-    (search needs)
-    (search needs)
+    (search rules)
+    (search rules)
     loop-again
-    (search needs))
+    (search rules))

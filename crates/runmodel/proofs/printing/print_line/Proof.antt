@@ -1,5 +1,5 @@
 -- `printing::print_line` is safe: the line is within its buffer.
-use Rattle.machine.specs.All.{needs}
+use Rattle.machine.specs.All.{rules}
 use Rattle.runmodel.proofs as our
 use our.Stored.{line-part}
 use our.printing.print_line as f
@@ -20,8 +20,8 @@ pub print-line-spec : {M : Type 1} → f.Statement.statement M
 print-line-spec =
     f.Tie.close
     (f.Tie.spec
-    (search needs)
+    (search rules)
     array-share-prefix-out
     slice-aggregate-write-all
-    (search needs)
-    (search needs))
+    (search rules)
+    (search rules))

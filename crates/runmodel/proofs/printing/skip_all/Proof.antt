@@ -1,6 +1,6 @@
 -- `printing::skip_all` meets its contract and ends. The invariant: behind the servers or queues that are left is
 -- behind all of them. The measure is how many are left.
-use Rattle.machine.specs.All.{◌≤◌, ◌-◌, arith, ◌≡◌, needs}
+use Rattle.machine.specs.All.{◌≤◌, ◌-◌, arith, ◌≡◌, rules}
 use Rattle.runmodel.specs.{behind_things}
 use Rattle.runmodel.proofs as our
 use our.Counting.{things-start, things-on, things-done}
@@ -29,8 +29,8 @@ skip-all-spec =
     Inv-loop
     μ-loop
     (λ c. (omega arith, things-start _ _ _ _))
-    (λ c κs. search needs)
-    (search needs)
-    (search needs)
+    (λ c κs. search rules)
+    (search rules)
+    (search rules)
     loop-again
     returns)

@@ -1,6 +1,6 @@
 -- `enter_freed` meets its contract: the steps in order.
 use Rattle.servers_laws.specs.Freeing.{enter_freed}
-use Rattle.machine.specs.All.{needs}
+use Rattle.machine.specs.All.{rules}
 use Rattle.servers.proofs.freeing.enter_freed.Statement.{statement}
 use Rattle.servers.proofs.freeing.enter_freed.Tie as tie
 
@@ -12,4 +12,4 @@ returns c =
     λ x e. rw (← at-check-wels.check-wels.ensures) (at-row-goes-on.row-goes-on.ensures x e)
 
 pub enter-freed-spec : {M : Type 1} → statement M
-enter-freed-spec = tie.close (tie.spec (search needs) (search needs) (search needs) returns)
+enter-freed-spec = tie.close (tie.spec (search rules) (search rules) (search rules) returns)

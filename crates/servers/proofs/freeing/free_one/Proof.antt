@@ -1,5 +1,5 @@
 -- `free_one` meets its contract: the steps in order.
-use Rattle.machine.specs.All.{refl, needs}
+use Rattle.machine.specs.All.{refl, rules}
 use Rattle.moves.proofs.MotionLaws.{tallied}
 use Rattle.servers_laws.proofs.AtClock.{changed-at}
 use Rattle.servers_laws.specs.Freeing.{free_one}
@@ -22,4 +22,4 @@ returns c =
     (tallied _ _ _ _ _ (at-enter-freed.enter-freed.ensures x e) refl)
 
 pub free-one-spec : {M : Type 1} → statement M
-free-one-spec = tie.close (tie.spec (search needs) (search needs) (search needs) (search needs) (search needs) (search needs) returns)
+free-one-spec = tie.close (tie.spec (search rules) (search rules) (search rules) (search rules) (search rules) (search rules) returns)

@@ -1,5 +1,5 @@
 -- `free_some` meets its contract: the steps in order.
-use Rattle.machine.specs.All.{refl, needs}
+use Rattle.machine.specs.All.{refl, rules}
 use Rattle.moves.proofs.MotionLaws.{tallied}
 use Rattle.servers_laws.proofs.AtClock.{changed-at}
 use Rattle.servers_laws.specs.Freeing.{free_some}
@@ -35,16 +35,16 @@ pub free-some-spec : {M : Type 1} → statement M
 free-some-spec =
     tie.close
     (tie.spec
-    (search needs)
-    (search needs)
-    (search needs)
-    (search needs)
-    (search needs)
-    (search needs)
-    (search needs)
-    (search needs)
-    (search needs)
-    (search needs)
-    (search needs)
-    (search needs)
+    (search rules)
+    (search rules)
+    (search rules)
+    (search rules)
+    (search rules)
+    (search rules)
+    (search rules)
+    (search rules)
+    (search rules)
+    (search rules)
+    (search rules)
+    (search rules)
     returns)

@@ -1,5 +1,5 @@
 -- `leave` meets its contract, by cases on the question.
-use Rattle.machine.specs.All.{refl, lt-ltb, le-ltb, needs}
+use Rattle.machine.specs.All.{refl, lt-ltb, le-ltb, rules}
 use Rattle.servers_laws.specs.Freeing.{leave_rows}
 use Rattle.servers.proofs.freeing.leave.Statement.{statement}
 use Rattle.servers.proofs.freeing.leave.Tie as tie
@@ -40,17 +40,17 @@ pub leave_spec : {M : Type 1} → statement M
 leave_spec =
     tie.close
     (tie.spec
-    (search needs)
-    (search needs)
-    (search needs)
-    (search needs)
-    (search needs)
-    (search needs)
-    (search needs)
-    (search needs)
+    (search rules)
+    (search rules)
+    (search rules)
+    (search rules)
+    (search rules)
+    (search rules)
+    (search rules)
+    (search rules)
     stopped
-    (search needs)
-    (search needs)
-    (search needs)
-    (search needs)
+    (search rules)
+    (search rules)
+    (search rules)
+    (search rules)
     entered)

@@ -1,5 +1,5 @@
 -- `release` meets its contract, by cases on the question.
-use Rattle.machine.specs.All.{refl, eq-eqb, ne_eqb, needs}
+use Rattle.machine.specs.All.{refl, eq-eqb, ne_eqb, rules}
 use Rattle.servers_laws.specs.Freeing.{release_rows}
 use Rattle.servers.proofs as our
 use our.freeing.release.Statement.{statement}
@@ -55,21 +55,21 @@ pub release_spec : {M : Type 1} → statement M
 release_spec =
     tie.close
     (tie.spec
-    (search needs)
-    (search needs)
-    (search needs)
-    (search needs)
-    (search needs)
-    (search needs)
-    (search needs)
-    (search needs)
-    (search needs)
-    (search needs)
-    (search needs)
+    (search rules)
+    (search rules)
+    (search rules)
+    (search rules)
+    (search rules)
+    (search rules)
+    (search rules)
+    (search rules)
+    (search rules)
+    (search rules)
+    (search rules)
     stopped
-    (search needs)
-    (search needs)
-    (search needs)
-    (search needs)
-    (search needs)
+    (search rules)
+    (search rules)
+    (search rules)
+    (search rules)
+    (search rules)
     entered)

@@ -1,5 +1,5 @@
 -- `enter` meets its contract: the units and the server that the block names.
-use Rattle.machine.specs.All.{refl, needs}
+use Rattle.machine.specs.All.{refl, rules}
 use Rattle.servers_laws.specs.Taking.{enter_rows}
 use Rattle.servers.proofs.taking.enter.Statement.{statement}
 use Rattle.servers.proofs.taking.enter.Tie as tie
@@ -17,13 +17,13 @@ pub enter_spec : {M : Type 1} → statement M
 enter_spec =
     tie.close
     (tie.spec
-    (search needs)
-    (search needs)
-    (search needs)
-    (search needs)
-    (search needs)
-    (search needs)
-    (search needs)
-    (search needs)
-    (search needs)
+    (search rules)
+    (search rules)
+    (search rules)
+    (search rules)
+    (search rules)
+    (search rules)
+    (search rules)
+    (search rules)
+    (search rules)
     returns)

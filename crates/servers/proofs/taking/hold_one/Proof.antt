@@ -1,5 +1,5 @@
 -- `hold_one` meets its contract: the steps in order.
-use Rattle.machine.specs.All.{refl, needs}
+use Rattle.machine.specs.All.{refl, rules}
 use Rattle.moves.proofs.MotionLaws.{tallied}
 use Rattle.servers_laws.proofs.AtClock.{changed-at}
 use Rattle.servers_laws.specs.Taking.{hold_units}
@@ -21,4 +21,4 @@ returns c =
     (tallied _ _ _ _ _ (at-row-goes-on.row-goes-on.ensures x e) refl)
 
 pub hold-one-spec : {M : Type 1} → statement M
-hold-one-spec = tie.close (tie.spec (search needs) (search needs) (search needs) (search needs) (search needs) (search needs) returns)
+hold-one-spec = tie.close (tie.spec (search rules) (search rules) (search rules) (search rules) (search rules) (search rules) returns)

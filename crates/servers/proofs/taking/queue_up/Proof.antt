@@ -1,5 +1,5 @@
 -- `queue_up` meets its contract: the statistics, the length in the tally, then the wait.
-use Rattle.machine.specs.All.{refl, needs}
+use Rattle.machine.specs.All.{refl, rules}
 use Rattle.moves.proofs.MotionLaws.{tallied}
 use Rattle.servers_laws.proofs.AtClock.{updated-at}
 use Rattle.servers_laws.specs.Taking.{longer, queue_up}
@@ -26,12 +26,12 @@ pub queue-up-spec : {M : Type 1} → statement M
 queue-up-spec =
     tie.close
     (tie.spec
-    (search needs)
-    (search needs)
-    (search needs)
-    (search needs)
-    (search needs)
-    (search needs)
-    (search needs)
-    (search needs)
+    (search rules)
+    (search rules)
+    (search rules)
+    (search rules)
+    (search rules)
+    (search rules)
+    (search rules)
+    (search rules)
     returns)

@@ -1,5 +1,5 @@
 -- `seize` meets its contract: one unit of the server that the block names, held by the moving one.
-use Rattle.machine.specs.All.{refl, needs}
+use Rattle.machine.specs.All.{refl, rules}
 use Rattle.servers_laws.specs.Taking.{seize_rows}
 use Rattle.servers.proofs as our
 use our.taking.seize.Statement.{statement}
@@ -18,12 +18,12 @@ pub seize-spec : {M : Type 1} → statement M
 seize-spec =
     tie.close
     (tie.spec
-    (search needs)
-    (search needs)
-    (search needs)
-    (search needs)
-    (search needs)
-    (search needs)
-    (search needs)
-    (search needs)
+    (search rules)
+    (search rules)
+    (search rules)
+    (search rules)
+    (search rules)
+    (search rules)
+    (search rules)
+    (search rules)
     returns)

@@ -1,5 +1,5 @@
 -- `seize_one` meets its contract, by cases on the free units.
-use Rattle.machine.specs.All.{refl, le-leb, lt-leb, needs}
+use Rattle.machine.specs.All.{refl, le-leb, lt-leb, rules}
 use Rattle.servers_laws.specs.Taking.{take_units}
 use Rattle.servers.proofs as our
 use our.taking.seize_one.Statement.{statement}
@@ -44,16 +44,16 @@ pub seize-one-spec : {M : Type 1} → statement M
 seize-one-spec =
     tie.close
     (tie.spec
-    (search needs)
-    (search needs)
-    (search needs)
-    (search needs)
-    (search needs)
-    (search needs)
-    (search needs)
+    (search rules)
+    (search rules)
+    (search rules)
+    (search rules)
+    (search rules)
+    (search rules)
+    (search rules)
     seized
-    (search needs)
-    (search needs)
-    (search needs)
-    (search needs)
+    (search rules)
+    (search rules)
+    (search rules)
+    (search rules)
     queued)

@@ -1,5 +1,5 @@
 -- `take_units` meets its contract, by cases on the free units.
-use Rattle.machine.specs.All.{refl, le-leb, lt-leb, needs}
+use Rattle.machine.specs.All.{refl, le-leb, lt-leb, rules}
 use Rattle.servers_laws.specs.Taking.{take_units}
 use Rattle.servers.proofs.taking.take_units.Statement.{statement}
 use Rattle.servers.proofs.taking.take_units.Tie as tie
@@ -43,16 +43,16 @@ pub take-units-spec : {M : Type 1} → statement M
 take-units-spec =
     tie.close
     (tie.spec
-    (search needs)
-    (search needs)
-    (search needs)
-    (search needs)
-    (search needs)
-    (search needs)
-    (search needs)
+    (search rules)
+    (search rules)
+    (search rules)
+    (search rules)
+    (search rules)
+    (search rules)
+    (search rules)
     taken
-    (search needs)
-    (search needs)
-    (search needs)
-    (search needs)
+    (search rules)
+    (search rules)
+    (search rules)
+    (search rules)
     queued)

@@ -1,5 +1,5 @@
 -- `change_use` meets its contract: the statistics, then the units.
-use Rattle.machine.specs.All.{needs}
+use Rattle.machine.specs.All.{rules}
 use Rattle.servers.proofs.units.change_use.Statement.{statement}
 use Rattle.servers.proofs.units.change_use.Tie as tie
 
@@ -10,4 +10,4 @@ returns c =
     rw (at-set-use.set-use.ensures, at-update-server.update-server.ensures)
 
 pub change-use-spec : {M : Type 1} → statement M
-change-use-spec = tie.close (tie.spec (search needs) (search needs) (search needs) returns)
+change-use-spec = tie.close (tie.spec (search rules) (search rules) (search rules) returns)

@@ -1,5 +1,5 @@
 -- `held_less` meets its contract: nobody, or the cell of the number.
-use Rattle.machine.specs.All.{needs, eq-eqb, ne_eqb}
+use Rattle.machine.specs.All.{rules, eq-eqb, ne_eqb}
 use Rattle.servers_laws.specs.Units.{set_held, held_less}
 use Rattle.servers.proofs.units.held_less.Statement.{statement}
 use Rattle.servers.proofs.units.held_less.Tie as tie
@@ -20,11 +20,11 @@ held-less-spec =
     tie.close
     (tie.spec
     nobody
-    (search needs)
-    (search needs)
-    (search needs)
-    (search needs)
-    (search needs)
-    (search needs)
-    (search needs)
+    (search rules)
+    (search rules)
+    (search rules)
+    (search rules)
+    (search rules)
+    (search rules)
+    (search rules)
     one_less)

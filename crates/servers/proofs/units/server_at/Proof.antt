@@ -1,11 +1,11 @@
 -- `server_at` meets its contract: a number below 64 of what the tables hold.
-use Rattle.machine.specs.All.{ℕ, ◌%◌, ap, arith, needs}
+use Rattle.machine.specs.All.{ℕ, ◌%◌, ap, arith, rules}
 use Rattle.servers_laws.specs.Units.{server_at}
 use Rattle.servers.proofs.units.server_at.Statement.{statement}
 use Rattle.servers.proofs.units.server_at.Tie as tie
 
 number-requires : tie.Need-number-requires
-number-requires c κs = search needs
+number-requires c κs = search rules
 
 returns : tie.Need-returns
 unfolding server_at

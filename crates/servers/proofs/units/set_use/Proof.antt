@@ -1,5 +1,5 @@
 -- `set_use` meets its contract: nothing where the tally is too short, else the counts and the three cells.
-use Rattle.machine.specs.All.{needs, lt-ltb, le-ltb}
+use Rattle.machine.specs.All.{rules, lt-ltb, le-ltb}
 use Rattle.layout.specs.All.{tally_size}
 use Rattle.servers_laws.specs.Units.{set_use}
 use Rattle.servers.proofs.units.set_use.Statement.{statement}
@@ -28,11 +28,11 @@ set-use-spec =
     tie.close
     (tie.spec
     short-tally
-    (search needs)
-    (search needs)
-    (search needs)
-    (search needs)
-    (search needs)
-    (search needs)
-    (search needs)
+    (search rules)
+    (search rules)
+    (search rules)
+    (search rules)
+    (search rules)
+    (search rules)
+    (search rules)
     holder-stored)

@@ -1,5 +1,5 @@
 -- `store_use` meets its contract: the three cells.
-use Rattle.machine.specs.All.{arith, length-set, needs}
+use Rattle.machine.specs.All.{arith, length-set, rules}
 use Rattle.servers.proofs.units.store_use.Statement.{statement}
 use Rattle.servers.proofs.units.store_use.Tie as tie
 
@@ -13,14 +13,14 @@ pub store-use-spec : {M : Type 1} → statement M
 store-use-spec =
     tie.close
     (tie.spec
-    (search needs)
-    (search needs)
-    (search needs)
-    (search needs)
-    (search needs)
+    (search rules)
+    (search rules)
+    (search rules)
+    (search rules)
+    (search rules)
     slice-write-tally-2
-    (search needs)
-    (search needs)
+    (search rules)
+    (search rules)
     slice-write-tally-3
-    (search needs)
-    (search needs))
+    (search rules)
+    (search rules))

@@ -1,5 +1,5 @@
 -- `back_count` meets its contract: by the kind, where the back count stands.
-use Rattle.machine.specs.All.{eq-eqb, ne_eqb, needs}
+use Rattle.machine.specs.All.{eq-eqb, ne_eqb, rules}
 use Rattle.servers_laws.specs.WaitServer.{back_of}
 use Rattle.servers.proofs.waiting.back_count.Statement.{statement}
 use Rattle.servers.proofs.waiting.back_count.Tie as tie
@@ -13,4 +13,4 @@ unfolding back_of
 plain c = rw (← c.before.number.ensures, ne_eqb _ 17 c.if1.false)
 
 pub back-count-spec : {M : Type 1} → statement M
-back-count-spec = tie.close (tie.spec (search needs) (search needs) (search needs) joined plain)
+back-count-spec = tie.close (tie.spec (search rules) (search rules) (search rules) joined plain)

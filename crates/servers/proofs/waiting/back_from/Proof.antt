@@ -1,6 +1,6 @@
 -- `back_from` meets its contract: the steps in order.
 use Rattle.servers_laws.specs.WaitServer.{back_from}
-use Rattle.machine.specs.All.{needs}
+use Rattle.machine.specs.All.{rules}
 use Rattle.servers.proofs.waiting.back_from.Statement.{statement}
 use Rattle.servers.proofs.waiting.back_from.Tie as tie
 
@@ -12,4 +12,4 @@ returns c =
     rw (← at-wake-first.wake-first.ensures) at-go-back.go-back.ensures
 
 pub back-from-spec : {M : Type 1} → statement M
-back-from-spec = tie.close (tie.spec (search needs) (search needs) (search needs) returns)
+back-from-spec = tie.close (tie.spec (search rules) (search rules) (search rules) returns)

@@ -1,6 +1,6 @@
 -- `pass_on` meets its contract, by cases on whether a group begins.
 use Rattle.servers_laws.specs.WaitServer.{pass_on}
-use Rattle.machine.specs.All.{needs}
+use Rattle.machine.specs.All.{rules}
 use Rattle.servers.proofs.waiting.pass_on.Statement.{statement}
 use Rattle.servers.proofs.waiting.pass_on.Tie as tie
 
@@ -21,4 +21,4 @@ goes_on c =
     rw (at-else1.if1.left, ← at-wake-first.wake-first.ensures) at-go-on.go_on.ensures
 
 pub pass-on-spec : {M : Type 1} → statement M
-pass-on-spec = tie.close (tie.spec (search needs) (search needs) (search needs) group-begins (search needs) (search needs) goes_on)
+pass-on-spec = tie.close (tie.spec (search rules) (search rules) (search rules) group-begins (search rules) (search rules) goes_on)

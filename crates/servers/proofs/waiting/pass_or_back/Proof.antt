@@ -1,5 +1,5 @@
 -- `pass_or_back` meets its contract: by back count and stamp it goes back or enters.
-use Rattle.machine.specs.All.{sym, ◌∙◌, needs}
+use Rattle.machine.specs.All.{sym, ◌∙◌, rules}
 use Rattle.servers_laws.specs.WaitServer.{pass_or_back}
 use Rattle.servers.proofs.waiting.pass_or_back.Statement.{statement}
 use Rattle.servers.proofs.waiting.pass_or_back.Tie as tie
@@ -28,12 +28,12 @@ pub pass-or-back-spec : {M : Type 1} → statement M
 pass-or-back-spec =
     tie.close
     (tie.spec
-    (search needs)
-    (search needs)
-    (search needs)
-    (search needs)
+    (search rules)
+    (search rules)
+    (search rules)
+    (search rules)
     goes_back
-    (search needs)
-    (search needs)
-    (search needs)
+    (search rules)
+    (search rules)
+    (search rules)
     passes)

@@ -1,6 +1,6 @@
 -- `wait_server` meets its contract: code and server that the block names.
 use Rattle.servers_laws.specs.WaitServer.{wait_server_rows}
-use Rattle.machine.specs.All.{needs}
+use Rattle.machine.specs.All.{rules}
 use Rattle.servers.proofs.waiting.wait_server.Statement.{statement}
 use Rattle.servers.proofs.waiting.wait_server.Tie as tie
 
@@ -26,16 +26,16 @@ pub wait-server-spec : {M : Type 1} → statement M
 wait-server-spec =
     tie.close
     (tie.spec
-    (search needs)
-    (search needs)
-    (search needs)
-    (search needs)
-    (search needs)
-    (search needs)
-    (search needs)
-    (search needs)
-    (search needs)
-    (search needs)
-    (search needs)
-    (search needs)
+    (search rules)
+    (search rules)
+    (search rules)
+    (search rules)
+    (search rules)
+    (search rules)
+    (search rules)
+    (search rules)
+    (search rules)
+    (search rules)
+    (search rules)
+    (search rules)
     returns)

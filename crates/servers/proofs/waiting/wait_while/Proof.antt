@@ -1,6 +1,6 @@
 -- `wait_while` meets its contract, by cases on the status.
 use Rattle.servers_laws.specs.WaitServer.{wait_while}
-use Rattle.machine.specs.All.{needs}
+use Rattle.machine.specs.All.{rules}
 use Rattle.servers.proofs.waiting.wait_while.Statement.{statement}
 use Rattle.servers.proofs.waiting.wait_while.Tie as tie
 
@@ -20,4 +20,4 @@ passes c =
     rw at-else1.if1.left at-pass-or-back.pass-or-back.ensures
 
 pub wait-while-spec : {M : Type 1} → statement M
-wait-while-spec = tie.close (tie.spec (search needs) (search needs) (search needs) waits (search needs) (search needs) passes)
+wait-while-spec = tie.close (tie.spec (search rules) (search rules) (search rules) waits (search rules) (search rules) passes)

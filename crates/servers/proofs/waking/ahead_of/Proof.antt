@@ -1,5 +1,5 @@
 -- `ahead_of` meets its contract, by cases on the first of REL and the last of the list.
-use Rattle.machine.specs.All.{lt-ltb, le-ltb, needs}
+use Rattle.machine.specs.All.{lt-ltb, le-ltb, rules}
 use Rattle.servers_laws.specs.Waking.{ahead_of}
 use Rattle.servers.proofs.waking.ahead_of.Statement.{statement}
 use Rattle.servers.proofs.waking.ahead_of.Tie as tie
@@ -41,4 +41,4 @@ by_order c =
     c.outranks.ensures
 
 pub ahead-of-spec : {M : Type 1} → statement M
-ahead-of-spec = tie.close (tie.spec (search needs) rel-empty (search needs) (search needs) (search needs) ql-empty (search needs) by_order)
+ahead-of-spec = tie.close (tie.spec (search rules) rel-empty (search rules) (search rules) (search rules) ql-empty (search rules) by_order)

@@ -1,5 +1,5 @@
 -- `at_once` meets its contract: the tests in order.
-use Rattle.machine.specs.All.{sym, ◌∙◌, lt-ltb, le-ltb, eq-eqb, ne_eqb, not-true, not-false, needs}
+use Rattle.machine.specs.All.{sym, ◌∙◌, lt-ltb, le-ltb, eq-eqb, ne_eqb, not-true, not-false, rules}
 use Rattle.servers_laws.specs.Waking.{many, at_once_lem}
 use Rattle.servers.proofs.waking.at_once.Statement.{statement}
 use Rattle.servers.proofs.waking.at_once.Tie as tie
@@ -55,4 +55,4 @@ by-demands c =
     c.none-too-many.ensures
 
 pub at-once-spec : {M : Type 1} → statement M
-at-once-spec = tie.close (tie.spec few second-edition (search needs) nobody-waits (search needs) not-ahead (search needs) by-demands)
+at-once-spec = tie.close (tie.spec few second-edition (search rules) nobody-waits (search rules) not-ahead (search rules) by-demands)

@@ -1,6 +1,6 @@
 -- `check_last` meets its contract: three codes in order.
 use Rattle.servers_laws.specs.Waking.{check_last}
-use Rattle.machine.specs.All.{needs}
+use Rattle.machine.specs.All.{rules}
 use Rattle.servers.proofs.waking.check_last.Statement.{statement}
 use Rattle.servers.proofs.waking.check_last.Tie as tie
 
@@ -13,4 +13,4 @@ returns c =
     rw (at-check-wel3.check-wel3.ensures, at-check-wel2.check-wel2.ensures, at-check-wel.check-wel.ensures)
 
 pub check-last-spec : {M : Type 1} → statement M
-check-last-spec = tie.close (tie.spec (search needs) (search needs) (search needs) (search needs) returns)
+check-last-spec = tie.close (tie.spec (search rules) (search rules) (search rules) (search rules) returns)

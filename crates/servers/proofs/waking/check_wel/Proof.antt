@@ -1,6 +1,6 @@
 -- `check_wel` meets its contract, by cases on the status.
 use Rattle.servers_laws.specs.Waking.{check_wel}
-use Rattle.machine.specs.All.{needs}
+use Rattle.machine.specs.All.{rules}
 use Rattle.servers.proofs.waking.check_wel.Statement.{statement}
 use Rattle.servers.proofs.waking.check_wel.Tie as tie
 
@@ -18,4 +18,4 @@ woken c =
 
 pub check-wel-spec : {M : Type 1} → statement M
 check-wel-spec =
-    tie.close (tie.spec (search needs) holds (search needs) (search needs) (search needs) (search needs) (search needs) woken)
+    tie.close (tie.spec (search rules) holds (search rules) (search rules) (search rules) (search rules) (search rules) woken)

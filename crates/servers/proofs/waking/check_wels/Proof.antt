@@ -1,6 +1,6 @@
 -- `check_wels` meets its contract: six codes in order.
 use Rattle.servers_laws.specs.Waking.{check_wels}
-use Rattle.machine.specs.All.{needs}
+use Rattle.machine.specs.All.{rules}
 use Rattle.servers.proofs.waking.check_wels.Statement.{statement}
 use Rattle.servers.proofs.waking.check_wels.Tie as tie
 
@@ -12,4 +12,4 @@ returns c =
     rw (at-check-last.check-last.ensures, at-check-first.check-first.ensures)
 
 pub check-wels-spec : {M : Type 1} → statement M
-check-wels-spec = tie.close (tie.spec (search needs) (search needs) (search needs) returns)
+check-wels-spec = tie.close (tie.spec (search rules) (search rules) (search rules) returns)

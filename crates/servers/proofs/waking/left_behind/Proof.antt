@@ -1,5 +1,5 @@
 -- `left_behind` meets its contract, by the edition.
-use Rattle.machine.specs.All.{eq-eqb, ne_eqb, needs}
+use Rattle.machine.specs.All.{eq-eqb, ne_eqb, rules}
 use Rattle.servers_laws.specs.Waking.{left_behind}
 use Rattle.servers.proofs.waking.left_behind.Statement.{statement}
 use Rattle.servers.proofs.waking.left_behind.Tie as tie
@@ -13,4 +13,4 @@ unfolding left_behind
 first-edition c = rw (eq-eqb _ 1 c.if1.false)
 
 pub left-behind-spec : {M : Type 1} → statement M
-left-behind-spec = tie.close (tie.spec (search needs) second-edition first-edition)
+left-behind-spec = tie.close (tie.spec (search rules) second-edition first-edition)

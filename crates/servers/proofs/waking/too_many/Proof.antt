@@ -1,5 +1,5 @@
 -- `too_many` meets its contract, by cases on the kind and the server.
-use Rattle.machine.specs.All.{eq-eqb, ne_eqb, needs}
+use Rattle.machine.specs.All.{eq-eqb, ne_eqb, rules}
 use Rattle.servers_laws.specs.Waking.{too_many_lem}
 use Rattle.servers.proofs.waking.too_many.Statement.{statement}
 use Rattle.servers.proofs.waking.too_many.Tie as tie
@@ -35,12 +35,12 @@ pub too-many-spec : {M : Type 1} → statement M
 too-many-spec =
     tie.close
     (tie.spec
-    (search needs)
+    (search rules)
     other-kind
-    (search needs)
-    (search needs)
+    (search rules)
+    (search rules)
     other-server
-    (search needs)
-    (search needs)
-    (search needs)
+    (search rules)
+    (search rules)
+    (search rules)
     by_units)

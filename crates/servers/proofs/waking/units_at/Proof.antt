@@ -1,5 +1,5 @@
 -- `units_at` meets its contract, by cases on the kind.
-use Rattle.machine.specs.All.{eq-eqb, ne_eqb, needs}
+use Rattle.machine.specs.All.{eq-eqb, ne_eqb, rules}
 use Rattle.servers_laws.specs.Waking.{units_at}
 use Rattle.servers.proofs.waking.units_at.Statement.{statement}
 use Rattle.servers.proofs.waking.units_at.Tie as tie
@@ -33,4 +33,4 @@ at_other c =
     rw (← at-number.number.ensures, ne_eqb _ 4 at-else1.if1.left, ne_eqb _ 6 at-else2.if2.left, ne_eqb _ 19 c.if3.false)
 
 pub units-at-spec : {M : Type 1} → statement M
-units-at-spec = tie.close (tie.spec (search needs) at-seize (search needs) (search needs) (search needs) at-enter at-preempt at_other)
+units-at-spec = tie.close (tie.spec (search rules) at-seize (search rules) (search rules) (search rules) at-enter at-preempt at_other)

@@ -1,6 +1,6 @@
 -- `wake_first_ql` meets its contract: the length in the tally, then the rows.
 use Rattle.servers_laws.specs.Waking.{shorter}
-use Rattle.machine.specs.All.{needs}
+use Rattle.machine.specs.All.{rules}
 use Rattle.servers.proofs.waking.wake_first_ql.Statement.{statement}
 use Rattle.servers.proofs.waking.wake_first_ql.Tie as tie
 
@@ -15,4 +15,4 @@ returns c =
 
 pub wake-first-ql-spec : {M : Type 1} → statement M
 wake-first-ql-spec =
-    tie.close (tie.spec (search needs) (search needs) (search needs) (search needs) (search needs) (search needs) (search needs) returns)
+    tie.close (tie.spec (search rules) (search rules) (search rules) (search rules) (search rules) (search rules) (search rules) returns)

@@ -1,5 +1,5 @@
 -- `wake_some` meets its contract: all at once, or one by one.
-use Rattle.machine.specs.All.{needs}
+use Rattle.machine.specs.All.{rules}
 use Rattle.servers_laws.specs.Waking.{woken_rows, woken_length}
 use Rattle.servers.proofs.waking.wake_some.Statement.{statement}
 use Rattle.servers.proofs.waking.wake_some.Tie as tie
@@ -25,4 +25,4 @@ one_by_one c =
     )
 
 pub wake-some-spec : {M : Type 1} → statement M
-wake-some-spec = tie.close (tie.spec (search needs) (search needs) (search needs) whole-list (search needs) (search needs) one_by_one)
+wake-some-spec = tie.close (tie.spec (search rules) (search rules) (search rules) whole-list (search rules) (search rules) one_by_one)

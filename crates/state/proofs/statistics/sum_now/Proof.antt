@@ -1,6 +1,6 @@
 -- `sum_now` meets its contract.
 use Rattle.state.specs.All.{sum_now}
-use Rattle.machine.specs.All.{needs}
+use Rattle.machine.specs.All.{rules}
 use Rattle.state.proofs.statistics.sum_now as f
 
 returns : f.Tie.Need-returns
@@ -14,4 +14,4 @@ returns c = rw (
     c.plus64.ensures
 
 pub sum-now-spec : {M : Type 1} → f.Statement.statement M
-sum-now-spec = f.Tie.close (f.Tie.spec (search needs) (search needs) (search needs) (search needs) (search needs) returns)
+sum-now-spec = f.Tie.close (f.Tie.spec (search rules) (search rules) (search rules) (search rules) (search rules) returns)

@@ -1,5 +1,5 @@
 -- `tapes::draw` meets its contract: kind by kind.
-use Rattle.machine.specs.All.{◌∙◌, needs}
+use Rattle.machine.specs.All.{◌∙◌, rules}
 use Rattle.tapes_laws.proofs.Drawing.{fixed-drawn, spread-drawn, curve-drawn}
 use Rattle.tapes.proofs.draw.draw as f
 
@@ -55,19 +55,19 @@ pub draw-spec : {M : Type 1} → f.Statement.statement M
 draw-spec =
     f.Tie.close
     (f.Tie.spec
-    (search needs)
-    (search needs)
-    (search needs)
-    (search needs)
+    (search rules)
+    (search rules)
+    (search rules)
+    (search rules)
     uniform-requires
-    (search needs)
-    (search needs)
-    (search needs)
-    (search needs)
+    (search rules)
+    (search rules)
+    (search rules)
+    (search rules)
     uniform-requires-2
-    (search needs)
-    (search needs)
-    (search needs)
+    (search rules)
+    (search rules)
+    (search rules)
     returns-fixed
     returns-spread
     returns-curve)

@@ -1,6 +1,6 @@
 -- `tapes::segment` meets its contract. The invariant: the points from here on are around the same two; the measure is what is left of the
 -- doubles.
-use Rattle.machine.specs.All.{ℕ, ◌+◌, ◌-◌, ◌≤◌, ◌<◌, arith, List, length, needs}
+use Rattle.machine.specs.All.{ℕ, ◌+◌, ◌-◌, ◌≤◌, ◌<◌, arith, List, length, rules}
 use Rattle.floats.specs.{Limits.draw_parts, Value.Is}
 use Rattle.tapes_laws.specs.{Source.Point, Held.Points}
 use Rattle.tapes_laws.proofs.Drawing.{Here, here-start, here-stops, here-goes, here-inside}
@@ -49,23 +49,23 @@ segment-spec =
     Inv-loop
     μ-loop
     loop-holds
-    (search needs)
-    (search needs)
-    (search needs)
-    (search needs)
-    (search needs)
-    (search needs)
-    (search needs)
-    (search needs)
-    (search needs)
-    (search needs)
-    (search needs)
-    (search needs)
-    (search needs)
-    (search needs)
-    (search needs)
+    (search rules)
+    (search rules)
+    (search rules)
+    (search rules)
+    (search rules)
+    (search rules)
+    (search rules)
+    (search rules)
+    (search rules)
+    (search rules)
+    (search rules)
+    (search rules)
+    (search rules)
+    (search rules)
+    (search rules)
     returns-u-below-numbers
-    (search needs)
-    (search needs)
+    (search rules)
+    (search rules)
     loop-again
     returns-last)

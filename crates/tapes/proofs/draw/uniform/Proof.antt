@@ -1,6 +1,6 @@
 -- `tapes::uniform` meets its contract.
 use Rattle.tapes_laws.specs.Source.{draw_of}
-use Rattle.machine.specs.All.{needs}
+use Rattle.machine.specs.All.{rules}
 use Rattle.tapes.proofs.draw.uniform as f
 
 returns : f.Tie.Need-returns
@@ -9,4 +9,4 @@ returns c =
     c.fraction.ensures
 
 pub uniform-spec : {M : Type 1} → f.Statement.statement M
-uniform-spec = f.Tie.close (f.Tie.spec (search needs) (search needs) returns)
+uniform-spec = f.Tie.close (f.Tie.spec (search rules) (search rules) returns)

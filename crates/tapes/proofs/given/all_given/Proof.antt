@@ -1,5 +1,5 @@
 -- `tapes::all_given` meets its contract. The invariant: the lists from k on answer as all do; the measure is how many are left.
-use Rattle.machine.specs.All.{◌-◌, ◌≤◌, arith, needs}
+use Rattle.machine.specs.All.{◌-◌, ◌≤◌, arith, rules}
 use Rattle.tapes_laws.proofs.Lists.{AsAll, all_start, all-stops, all-goes, all_done}
 use Rattle.tapes.proofs.given.all_given as f
 
@@ -38,10 +38,10 @@ all-given-spec =
     μ-loop
     (λ c. (omega arith, all_start _ _ _))
     (omega arith)
-    (search needs)
-    (search needs)
+    (search rules)
+    (search rules)
     returns-no-given
-    (search needs)
-    (search needs)
+    (search rules)
+    (search rules)
     loop-again
     returns-last)

@@ -1,5 +1,5 @@
 -- `tapes::choose` meets its contract: kind by kind.
-use Rattle.machine.specs.All.{eq-eqb, ne_eqb, needs}
+use Rattle.machine.specs.All.{eq-eqb, ne_eqb, rules}
 use Rattle.tapes_laws.specs.Given.{source_at}
 use Rattle.tapes.proofs.given.choose as f
 
@@ -42,11 +42,11 @@ returns-last c =
 
 pub choose_spec : {M : Type 1} → f.Statement.statement M
 choose_spec = f.Tie.close (f.Tie.spec
-    (search needs)
+    (search rules)
     returns-kind-is-2
     returns-points-is-not-0
-    (search needs)
+    (search rules)
     returns-kind-is-0
-    (search needs)
+    (search rules)
     returns-kind-is-1
     returns-last)

@@ -1,5 +1,5 @@
 -- `tapes::curve` meets its contract: each of the questions in turn.
-use Rattle.machine.specs.All.{sym, ◌∙◌, needs}
+use Rattle.machine.specs.All.{sym, ◌∙◌, rules}
 use Rattle.tapes_laws.proofs.Curves.{pointed, unpointed, curve-few, curve-many, curve_no_point, curve-late, curve-broken, curve-taken}
 use Rattle.tapes.proofs.given.curve as f
 
@@ -45,13 +45,13 @@ curve-spec =
     (f.Tie.spec
     (λ c. curve-few _ _ _ c.if1.taken)
     (λ c. curve-many _ _ _ c.before.if1.left c.if2.taken)
-    (search needs)
-    (search needs)
-    (search needs)
+    (search rules)
+    (search rules)
+    (search rules)
     returns-no-at
     returns-u-is-not-0
-    (search needs)
-    (search needs)
-    (search needs)
+    (search rules)
+    (search rules)
+    (search rules)
     returns-points-behind
     returns-last)

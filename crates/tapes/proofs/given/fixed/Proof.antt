@@ -1,6 +1,6 @@
 -- `tapes::fixed` meets its contract.
 use Rattle.tapes_laws.proofs.Reading.{counted, uncounted, time-inside, fixed-refused, fixed-taken}
-use Rattle.machine.specs.All.{needs}
+use Rattle.machine.specs.All.{rules}
 use Rattle.tapes.proofs.given.fixed as f
 
 returns-no-count : f.Tie.Need-returns
@@ -22,10 +22,10 @@ pub fixed-spec : {M : Type 1} → f.Statement.statement M
 fixed-spec =
     f.Tie.close
     (f.Tie.spec
-    (search needs)
-    (search needs)
-    (search needs)
+    (search rules)
+    (search rules)
+    (search rules)
     returns-no-count
-    (search needs)
+    (search rules)
     shared-slice-read-t7
     returns-last)

@@ -1,6 +1,6 @@
 -- `tapes::list_at` meets its contract: the count, then the distribution.
 use Rattle.tapes_laws.proofs.Lists.{row-many, row-refused, row-taken, no_row, row-most}
-use Rattle.machine.specs.All.{needs}
+use Rattle.machine.specs.All.{rules}
 use Rattle.tapes.proofs.given.list_at as f
 
 returns-no-taken : f.Tie.Need-returns-2
@@ -19,21 +19,21 @@ pub list-at-spec : {M : Type 1} → f.Statement.statement M
 list-at-spec =
     f.Tie.close
     (f.Tie.spec
-    (search needs)
-    (search needs)
-    (search needs)
-    (search needs)
+    (search rules)
+    (search rules)
+    (search rules)
+    (search rules)
     (λ c. (row-many _ _ _ c.if1.taken, λ d n. no_row))
-    (search needs)
-    (search needs)
-    (search needs)
-    (search needs)
-    (search needs)
-    (search needs)
-    (search needs)
-    (search needs)
-    (search needs)
-    (search needs)
-    (search needs)
+    (search rules)
+    (search rules)
+    (search rules)
+    (search rules)
+    (search rules)
+    (search rules)
+    (search rules)
+    (search rules)
+    (search rules)
+    (search rules)
+    (search rules)
     returns-no-taken
     returns-last)

@@ -1,7 +1,7 @@
 -- `tapes::next_point` meets its contract.
 use Rattle.tapes_laws.specs.Answers.{point_of}
 use Rattle.tapes_laws.proofs.Curves.{pointed, unpointed, step-none, step_back, step_falls, step-taken, no_point, point-inside}
-use Rattle.machine.specs.All.{needs}
+use Rattle.machine.specs.All.{rules}
 use Rattle.tapes.proofs.given.next_point as f
 
 returns-no-at : f.Tie.Need-returns
@@ -38,9 +38,9 @@ returns-last c =
 
 pub next-point-spec : {M : Type 1} → f.Statement.statement M
 next-point-spec = f.Tie.close (f.Tie.spec
-    (search needs)
-    (search needs)
-    (search needs)
+    (search rules)
+    (search rules)
+    (search rules)
     returns-no-at
     returns-v-at-most-u
     returns-t-below-time

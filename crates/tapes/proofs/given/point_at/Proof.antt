@@ -1,5 +1,5 @@
 -- `tapes::point_at` meets its contract.
-use Rattle.machine.specs.All.{arith, needs}
+use Rattle.machine.specs.All.{arith, rules}
 use Rattle.tapes_laws.specs.Answers.{point_of}
 use Rattle.tapes_laws.proofs.{Reading.counted, Reading.uncounted, Reading.u-inside, Curves.point_no-u, Curves.point_no-time, Curves.point-taken}
 use Rattle.tapes.proofs.given.point_at as f
@@ -37,13 +37,13 @@ pub point-at-spec : {M : Type 1} → f.Statement.statement M
 point-at-spec =
     f.Tie.close
     (f.Tie.spec
-    (search needs)
-    (search needs)
-    (search needs)
+    (search rules)
+    (search rules)
+    (search rules)
     returns-no-count-u-at
     add-time-at
-    (search needs)
-    (search needs)
-    (search needs)
+    (search rules)
+    (search rules)
+    (search rules)
     returns-no-count-time-at
     returns-last)

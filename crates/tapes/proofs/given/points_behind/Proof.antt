@@ -1,5 +1,5 @@
 -- `tapes::points_behind` meets its contract. The invariant: the points that are left answer as all of them; the measure is their number.
-use Rattle.machine.specs.All.{arith, ◌≡◌, refl, ◌∙◌, needs}
+use Rattle.machine.specs.All.{arith, ◌≡◌, refl, ◌∙◌, rules}
 use Rattle.tapes_laws.specs.{Given.points_behind, Answers.corner, Answers.is_given}
 use Rattle.tapes_laws.proofs.Curves.{pointed, unpointed, behind-stops, behind-goes, behind-ends}
 use Rattle.tapes.proofs.given.points_behind as f
@@ -43,12 +43,12 @@ points-behind-spec =
     Inv-loop
     μ-loop
     (λ c. refl)
-    (search needs)
-    (search needs)
-    (search needs)
+    (search rules)
+    (search rules)
+    (search rules)
     returns-no-at
     add_at
-    (search needs)
-    (search needs)
+    (search rules)
+    (search rules)
     loop-again
     returns-last)

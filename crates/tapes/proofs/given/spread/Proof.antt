@@ -1,6 +1,6 @@
 -- `tapes::spread` meets its contract: each of the questions in turn.
 use Rattle.tapes_laws.proofs.Reading.{counted, uncounted, time-inside, spread_no_mean, spread_no_half, spread_wide, spread-late, spread-taken}
-use Rattle.machine.specs.All.{needs}
+use Rattle.machine.specs.All.{rules}
 use Rattle.tapes.proofs.given.spread as f
 
 returns-no-count-time-at : f.Tie.Need-returns
@@ -61,20 +61,20 @@ pub spread-spec : {M : Type 1} → f.Statement.statement M
 spread-spec =
     f.Tie.close
     (f.Tie.spec
-    (search needs)
-    (search needs)
-    (search needs)
+    (search rules)
+    (search rules)
+    (search rules)
     returns-no-count-time-at
-    (search needs)
-    (search needs)
-    (search needs)
-    (search needs)
+    (search rules)
+    (search rules)
+    (search rules)
+    (search rules)
     returns-no-count-time-at-2
     returns-mean-below-half
     returns-max-mean-parts-below-mean
-    (search needs)
+    (search rules)
     shared-slice-read-t11
-    (search needs)
-    (search needs)
+    (search rules)
+    (search rules)
     shared-slice-read-t15
     returns-last)

@@ -2,7 +2,7 @@
 use Rattle.floats.specs.Answers.{count_of}
 use Rattle.tapes_laws.specs.Given.{u_at}
 use Rattle.tapes_laws.proofs.Reading.{u-past}
-use Rattle.machine.specs.All.{needs}
+use Rattle.machine.specs.All.{rules}
 use Rattle.tapes.proofs.given.u_at as f
 
 returns-len-at-most-at : f.Tie.Need-returns
@@ -18,7 +18,7 @@ returns-last c =
 pub u-at-spec : {M : Type 1} → f.Statement.statement M
 u-at-spec = f.Tie.close (f.Tie.spec
     returns-len-at-most-at
-    (search needs)
-    (search needs)
-    (search needs)
+    (search rules)
+    (search rules)
+    (search rules)
     returns-last)

@@ -1,6 +1,6 @@
 -- `tapes::measure` meets its contract. The invariant: the lists that are left and what was measured are the whole; the measure is how many
 -- lists are left.
-use Rattle.machine.specs.All.{◌*◌, ◌-◌, ◌≤◌, arith, ◌≡◌, List, some, needs}
+use Rattle.machine.specs.All.{◌*◌, ◌-◌, ◌≤◌, arith, ◌≡◌, List, some, rules}
 use Rattle.streams.specs.Stream.{Inside}
 use Rattle.tapes_laws.specs.Given.{Listed, lists_from}
 use Rattle.tapes_laws.proofs.Times.{len-most}
@@ -96,15 +96,15 @@ measure-spec =
     decreases-loop
     loop-holds
     (omega arith)
-    (search needs)
-    (search needs)
+    (search rules)
+    (search rules)
     returns-no-given
     measure-times-requires
-    (search needs)
-    (search needs)
+    (search rules)
+    (search rules)
     add-bytes
     add-bytes-2
-    (search needs)
-    (search needs)
+    (search rules)
+    (search rules)
     loop-again
     returns-last)

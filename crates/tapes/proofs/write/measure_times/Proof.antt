@@ -1,6 +1,6 @@
 -- `tapes::measure_times` meets its contract. The invariant: what is left and what was measured are the whole; the measure is how many times
 -- are left.
-use Rattle.machine.specs.All.{◌+◌, ◌*◌, ◌≤◌, arith, needs}
+use Rattle.machine.specs.All.{◌+◌, ◌*◌, ◌≤◌, arith, rules}
 use Rattle.streams.specs.Stream.{Inside}
 use Rattle.tapes_laws.specs.{Source.Source, Held.Meant}
 use Rattle.tapes_laws.proofs.Times.{MeasureRest, measure-start, measure-goes, measure-done, len-most}
@@ -49,9 +49,9 @@ measure-times-spec =
     μ-loop
     loop-holds
     (λ c κs. c.before.loop.inv.0)
-    (search needs)
+    (search rules)
     add-bytes
-    (search needs)
-    (search needs)
+    (search rules)
+    (search rules)
     loop-again
     returns)

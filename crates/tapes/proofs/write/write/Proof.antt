@@ -1,6 +1,6 @@
 -- `tapes::write` meets its contract. The invariant: the lists that are left, written behind what stands, give the whole; the measure is how
 -- many lists are left.
-use Rattle.machine.specs.All.{◌-◌, ◌≤◌, arith, ◌≡◌, refl, length, List, some, needs}
+use Rattle.machine.specs.All.{◌-◌, ◌≤◌, arith, ◌≡◌, refl, length, List, some, rules}
 use Rattle.streams.specs.Stream.{Inside}
 use Rattle.tapes_laws.specs.{Given.Listed, Given.lists_from, Tape.tape_bytes}
 use Rattle.tapes_laws.proofs.Tapes.{WriteLeft, write-lists, write_barred, write-next, all-written}
@@ -48,7 +48,7 @@ loop-again c =
     let at-loop : f.Tie.At-loop Inv-loop μ-loop = search in (
       at-write-times.write-times.ensures.1,
       omega arith,
-      (search needs),
+      (search rules),
       λ all e room.
           write-next _ _ _ _ _ _ _ all _ _ (at-loop.loop.inv.3 all e room) room _ _ _ _ _ _ _ _ at-loop-test.loop-test.taken
           at-list-at.list_at.ensures.0
@@ -67,15 +67,15 @@ write_spec =
     μ-loop
     loop-holds
     (omega arith)
-    (search needs)
-    (search needs)
+    (search rules)
+    (search rules)
     same_length
     returns-no-given
-    (search needs)
-    (search needs)
+    (search rules)
+    (search rules)
     write-times-requires
-    (search needs)
-    (search needs)
+    (search rules)
+    (search rules)
     loop-again
     (λ c. c.before.loop.inv.2)
     returns-last)

@@ -1,6 +1,6 @@
 -- `tapes::write_times` meets its contract. The invariant: what is left, written behind what stands, gives the whole; the measure is how
 -- many times are left.
-use Rattle.machine.specs.All.{◌+◌, ◌≤◌, ◌≡◌, refl, length, needs}
+use Rattle.machine.specs.All.{◌+◌, ◌≤◌, ◌≡◌, refl, length, rules}
 use Rattle.streams.specs.Stream.{Inside}
 use Rattle.tapes_laws.specs.{Source.Source, Tape.times_bytes, Held.Meant}
 use Rattle.tapes_laws.proofs.Times.{WriteRest, write-start, write_goes, write_done}
@@ -27,7 +27,7 @@ loop-again c =
     let at-loop-test : f.Tie.In-loop Inv-loop μ-loop = search in
     let at-loop : f.Tie.At-loop Inv-loop μ-loop = search in (
       at-draw.draw.ensures.1,
-      (search needs),
+      (search rules),
       λ s meant room.
           let drawn = at-draw.draw.ensures.0 s meant in
           write_goes s _ _ _ _ _ _ _ _ (at-loop.loop.inv.2 s meant room) room _ _ _ _ at-loop-test.loop-test.taken drawn.0
@@ -48,9 +48,9 @@ write-times-spec =
     μ-loop
     loop-holds
     (λ c κs. c.before.loop.inv.0)
-    (search needs)
-    (search needs)
-    (search needs)
+    (search rules)
+    (search rules)
+    (search rules)
     loop-again
     (λ c. c.before.loop.inv.1)
     returns)

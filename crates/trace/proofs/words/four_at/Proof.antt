@@ -1,5 +1,5 @@
 -- `words::four_at` meets its contract: the lower half holds the first 2 bytes, the upper half the others.
-use Rattle.machine.specs.All.{needs}
+use Rattle.machine.specs.All.{rules}
 use Rattle.trace.proofs as our
 use our.WordLaws.{holds_beside}
 use our.words.four_at as f
@@ -10,9 +10,9 @@ returns c =
 
 pub four-at-spec : {M : Type 1} → f.Statement.statement M
 four-at-spec = f.Tie.close (f.Tie.spec
-    (search needs)
-    (search needs)
-    (search needs)
-    (search needs)
-    (search needs)
+    (search rules)
+    (search rules)
+    (search rules)
+    (search rules)
+    (search rules)
     returns)

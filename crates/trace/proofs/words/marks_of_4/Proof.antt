@@ -1,17 +1,17 @@
 -- `words::marks_of_4` meets its contract: the marks of both halves, added.
-use Rattle.machine.specs.All.{needs}
+use Rattle.machine.specs.All.{rules}
 use Rattle.trace.proofs as our
 use our.WordLaws.{marks_beside}
 use our.words.marks_of_4 as f
 
 returns : f.Tie.Need-returns
 returns c =
-    marks_beside _ _ 16 16 (search needs) c.before.marks-of-2.ensures c.marks-of-22.ensures
+    marks_beside _ _ 16 16 (search rules) c.before.marks-of-2.ensures c.marks-of-22.ensures
 
 pub marks-of-4-spec : {M : Type 1} → f.Statement.statement M
 marks-of-4-spec = f.Tie.close (f.Tie.spec
-    (search needs)
-    (search needs)
-    (search needs)
-    (search needs)
+    (search rules)
+    (search rules)
+    (search rules)
+    (search rules)
     returns)

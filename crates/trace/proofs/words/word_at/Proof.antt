@@ -1,5 +1,5 @@
 -- `words::word_at` meets its contract: the lower half holds the first 4 bytes, the upper half the others.
-use Rattle.machine.specs.All.{needs}
+use Rattle.machine.specs.All.{rules}
 use Rattle.trace.proofs as our
 use our.WordLaws.{holds_beside}
 use our.words.word_at as f
@@ -10,9 +10,9 @@ returns c =
 
 pub word-at-spec : {M : Type 1} → f.Statement.statement M
 word-at-spec = f.Tie.close (f.Tie.spec
-    (search needs)
-    (search needs)
-    (search needs)
-    (search needs)
-    (search needs)
+    (search rules)
+    (search rules)
+    (search rules)
+    (search rules)
+    (search rules)
     returns)

@@ -1,5 +1,5 @@
 -- `act` meets its contract: the block, then its record.
-use Rattle.machine.specs.All.{lt-ltb, le-ltb, needs}
+use Rattle.machine.specs.All.{lt-ltb, le-ltb, rules}
 use Rattle.turn_laws.specs.Turn.{act}
 use Rattle.turn_laws.proofs.Parts.{note-joined}
 use Rattle.turn.proofs as our
@@ -7,29 +7,29 @@ use our.acting.act.Statement.{statement}
 use our.acting.act.Tie as tie
 
 less32-requires : tie.Need-less32-requires
-less32-requires c κs = search needs
+less32-requires c κs = search rules
 
 cast-b : tie.Need-overflow-cast-b
-cast-b c = search needs
+cast-b c = search rules
 
 returns-b-at-least-max-blocks : tie.Need-returns
 unfolding act
 returns-b-at-least-max-blocks c = rw (← c.before.less32.ensures, le-ltb _ 256 c.if1.true)
 
 mul-execute : tie.Need-overflow-mul-execute
-mul-execute c = search needs
+mul-execute c = search rules
 
 execute-requires : tie.Need-execute-requires
-execute-requires c κs = search needs
+execute-requires c κs = search rules
 
 note-record-requires : tie.Need-note-record-requires
-note-record-requires c κs = search needs
+note-record-requires c κs = search rules
 
 same_length : tie.Need-same-length
-same_length c = search needs
+same_length c = search rules
 
 same-length-2 : tie.Need-same-length-2
-same-length-2 c = search needs
+same-length-2 c = search rules
 
 returns-last : tie.Need-returns-2
 unfolding act

@@ -1,5 +1,5 @@
 -- `act_moving` meets its contract, by cases on whether somebody moves.
-use Rattle.machine.specs.All.{◌∙◌, lt-ltb, le-ltb, needs}
+use Rattle.machine.specs.All.{◌∙◌, lt-ltb, le-ltb, rules}
 use Rattle.turn_laws.specs.Turn.{act_moving}
 use Rattle.turn.proofs.acting.act_moving as f
 
@@ -22,9 +22,9 @@ act-moving-spec =
     f.Tie.close
     (f.Tie.spec
     returns-k-at-least-rows
-    (search needs)
-    (search needs)
-    (search needs)
-    (search needs)
-    (search needs)
+    (search rules)
+    (search rules)
+    (search rules)
+    (search rules)
+    (search rules)
     returns-last)

@@ -1,5 +1,5 @@
 -- `after_taking` meets its contract: the block with its record, are they asked, the WS scheme.
-use Rattle.machine.specs.All.{needs}
+use Rattle.machine.specs.All.{rules}
 use Rattle.turn_laws.proofs.Parts.{after-turned}
 use Rattle.turn.proofs.acting.after_taking as f
 
@@ -13,9 +13,9 @@ returns c =
 
 pub after-taking-spec : {M : Type 1} → f.Statement.statement M
 after-taking-spec = f.Tie.close (f.Tie.spec
-    (search needs)
-    (search needs)
-    (search needs)
-    (search needs)
-    (search needs)
+    (search rules)
+    (search rules)
+    (search rules)
+    (search rules)
+    (search rules)
     returns)

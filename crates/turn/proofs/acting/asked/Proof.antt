@@ -1,5 +1,5 @@
 -- `asked` meets its contract: the clock first, then the block of whoever moved.
-use Rattle.machine.specs.All.{lt-ltb, le-ltb, needs}
+use Rattle.machine.specs.All.{lt-ltb, le-ltb, rules}
 use Rattle.turn_laws.specs.Turn.{asks}
 use Rattle.turn.proofs.acting.asked as f
 
@@ -32,11 +32,11 @@ returns-last c =
 
 pub asked-spec : {M : Type 1} → f.Statement.statement M
 asked-spec = f.Tie.close (f.Tie.spec
-    (search needs)
+    (search rules)
     returns-clock-asked
-    (search needs)
-    (search needs)
+    (search rules)
+    (search rules)
     returns-b-at-least-max-blocks
-    (search needs)
-    (search needs)
+    (search rules)
+    (search rules)
     returns-last)

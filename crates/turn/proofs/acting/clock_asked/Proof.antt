@@ -1,5 +1,5 @@
 -- `clock_asked` meets its contract, by cases on whether the clock moved.
-use Rattle.machine.specs.All.{eq-eqb, ne_eqb, needs}
+use Rattle.machine.specs.All.{eq-eqb, ne_eqb, rules}
 use Rattle.turn_laws.specs.Turn.{clock_asks}
 use Rattle.turn.proofs.acting.clock_asked as f
 
@@ -19,5 +19,5 @@ clock-asked-spec =
     f.Tie.close
     (f.Tie.spec
     returns-before-is-after
-    (search needs)
+    (search rules)
     returns-last)

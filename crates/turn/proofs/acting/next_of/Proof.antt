@@ -1,5 +1,5 @@
 -- `next_of` meets its contract, by cases on the row.
-use Rattle.machine.specs.All.{lt-ltb, le-ltb, needs}
+use Rattle.machine.specs.All.{lt-ltb, le-ltb, rules}
 use Rattle.turn_laws.specs.Turn.{next_of}
 use Rattle.turn.proofs.acting.next_of as f
 
@@ -14,4 +14,4 @@ returns-last c =
     rw (lt-ltb _ 1024 c.before.if1.left) c.read.ensures
 
 pub next-of-spec : {M : Type 1} → f.Statement.statement M
-next-of-spec = f.Tie.close (f.Tie.spec returns-k-at-least-rows (search needs) returns-last)
+next-of-spec = f.Tie.close (f.Tie.spec returns-k-at-least-rows (search rules) returns-last)

@@ -1,5 +1,5 @@
 -- `scheme` meets its contract, by cases on whether they are asked.
-use Rattle.machine.specs.All.{arith, not-true, not-false, needs}
+use Rattle.machine.specs.All.{arith, not-true, not-false, rules}
 use Rattle.turn_laws.proofs.Parts.{scheme-not, scheme_so}
 use Rattle.turn.proofs.acting.scheme as f
 
@@ -20,5 +20,5 @@ scheme-spec =
     (f.Tie.spec
     (λ c. scheme-not _ _ _ _ _ _ _ (not-true _ c.if1.taken))
     ws-requires
-    (search needs)
+    (search rules)
     returns-last)

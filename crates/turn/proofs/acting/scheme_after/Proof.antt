@@ -1,5 +1,5 @@
 -- `scheme_after` meets its contract, by cases on whether somebody is on the WSL.
-use Rattle.machine.specs.All.{arith, needs}
+use Rattle.machine.specs.All.{arith, rules}
 use Rattle.turn_laws.proofs.Parts.{scheme-none}
 use Rattle.turn.proofs.acting.scheme_after as f
 
@@ -15,10 +15,10 @@ returns-last c =
 
 pub scheme-after-spec : {M : Type 1} → f.Statement.statement M
 scheme-after-spec = f.Tie.close (f.Tie.spec
-    (search needs)
-    (search needs)
+    (search rules)
+    (search rules)
     returns-first-at-least-rows
-    (search needs)
-    (search needs)
-    (search needs)
+    (search rules)
+    (search rules)
+    (search rules)
     returns-last)

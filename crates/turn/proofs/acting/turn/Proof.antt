@@ -1,5 +1,5 @@
 -- `turn` meets its contract: the taking, and what follows it.
-use Rattle.machine.specs.All.{arith, needs}
+use Rattle.machine.specs.All.{arith, rules}
 use Rattle.turn_laws.proofs.Parts.{turned}
 use Rattle.turn.proofs.acting.turn as f
 
@@ -19,8 +19,8 @@ pub turn_spec : {M : Type 1} → f.Statement.statement M
 turn_spec =
     f.Tie.close
     (f.Tie.spec
-    (search needs)
+    (search rules)
     after-taking-requires
-    (search needs)
-    (search needs)
+    (search rules)
+    (search rules)
     returns)

@@ -1,5 +1,5 @@
 -- `append_record` meets its contract: the rest behind `used` is what the writer leaves. Assumes nothing.
-use Rattle.machine.specs.All.{sym, ap, ◌∙◌, arith, length-take, length-drop, lt-leb, needs}
+use Rattle.machine.specs.All.{sym, ap, ◌∙◌, arith, length-take, length-drop, lt-leb, rules}
 use Rattle.trace.specs.Answers.{writing_of}
 use Rattle.turn_laws.specs.Note.{bytes, append_record}
 use Rattle.turn_laws.proofs.Notes.{rest-is, appends, refuses}
@@ -17,7 +17,7 @@ add-result c =
     omega (arith, simp (length-take, length-drop) at count.1)
 
 enum_told : f.Tie.Need-enum-told
-enum_told c = search needs
+enum_told c = search rules
 
 returns-bytes : f.Tie.Need-returns-2
 returns-bytes c =
@@ -47,14 +47,14 @@ append-record-spec =
     f.Tie.close
     (f.Tie.spec
     returns-len-below-used
-    (search needs)
-    (search needs)
-    (search needs)
-    (search needs)
-    (search needs)
+    (search rules)
+    (search rules)
+    (search rules)
+    (search rules)
+    (search rules)
     add-result
     enum_told
-    (search needs)
+    (search rules)
     returns-bytes
-    (search needs)
+    (search rules)
     returns-refused)

@@ -1,5 +1,5 @@
 -- `cell` meets its contract: by the outcome. Assumes nothing.
-use Rattle.machine.specs.All.{eq-eqb, ne_eqb, needs}
+use Rattle.machine.specs.All.{eq-eqb, ne_eqb, rules}
 use Rattle.turn_laws.specs.Note.{cell_of}
 use Rattle.turn.proofs.note.cell as f
 
@@ -15,8 +15,8 @@ returns-last c =
 
 pub cell-spec : {M : Type 1} → f.Statement.statement M
 cell-spec = f.Tie.close (f.Tie.spec
-    (search needs)
-    (search needs)
+    (search rules)
+    (search rules)
     returns-outcome-is-entered
-    (search needs)
+    (search rules)
     returns-last)

@@ -1,5 +1,5 @@
 -- `count_record` meets its contract: one store. Assumes nothing.
-use Rattle.machine.specs.All.{◌∙◌, needs}
+use Rattle.machine.specs.All.{◌∙◌, rules}
 use Rattle.turn_laws.specs.Note.{count_record}
 use Rattle.turn.proofs.note.count_record as f
 
@@ -16,4 +16,4 @@ returns c =
 pub count-record-spec : {M : Type 1} → f.Statement.statement M
 count-record-spec =
     f.Tie.close
-    (f.Tie.spec (search needs) (search needs) (search needs) (search needs) (search needs) returns)
+    (f.Tie.spec (search rules) (search rules) (search rules) (search rules) (search rules) returns)

@@ -1,5 +1,5 @@
 -- `note_record` meets its contract: a count, then the record's bytes.
-use Rattle.machine.specs.All.{le-ltb, needs}
+use Rattle.machine.specs.All.{le-ltb, rules}
 use Rattle.turn_laws.specs.Note.{note_record}
 use Rattle.turn_laws.proofs.Notes.{notes}
 use Rattle.turn.proofs.note.note_record as f
@@ -21,8 +21,8 @@ note-record-spec =
     f.Tie.close
     (f.Tie.spec
     returns-outcome-at-least-no-record
-    (search needs)
-    (search needs)
-    (search needs)
-    (search needs)
+    (search rules)
+    (search rules)
+    (search rules)
+    (search rules)
     returns-last)

@@ -1,5 +1,5 @@
 -- `all_wait` meets its contract, by cases on the block.
-use Rattle.machine.specs.All.{◌-◌, ◌∙◌, sym, arith, ltb-true, not-true, not-false, needs}
+use Rattle.machine.specs.All.{◌-◌, ◌∙◌, sym, arith, ltb-true, not-true, not-false, rules}
 use Rattle.turn_laws.specs.Staying.{all_wait}
 use Rattle.turn_laws.proofs.Staying.{quiet_is}
 use Rattle.turn.proofs.staying.all_wait as f
@@ -34,10 +34,10 @@ pub all-wait-spec : {M : Type 1} → f.Statement.statement M
 all-wait-spec =
     f.Tie.close
     (f.Tie.spec
-    (search needs)
+    (search rules)
     returns-not-quiet
-    (search needs)
-    (search needs)
-    (search needs)
+    (search rules)
+    (search rules)
+    (search rules)
     held-by-all-requires
     returns-last)

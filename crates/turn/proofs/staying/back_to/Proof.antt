@@ -1,5 +1,5 @@
 -- `back_to` meets its contract, by cases on the first of REL.
-use Rattle.machine.specs.All.{lt-ltb, le-ltb, eq-eqb, ne_eqb, needs}
+use Rattle.machine.specs.All.{lt-ltb, le-ltb, eq-eqb, ne_eqb, rules}
 use Rattle.turn_laws.specs.Staying.{back_to}
 use Rattle.turn.proofs.staying.back_to as f
 
@@ -28,9 +28,9 @@ pub back-to-spec : {M : Type 1} → f.Statement.statement M
 back-to-spec =
     f.Tie.close
     (f.Tie.spec
-    (search needs)
+    (search rules)
     returns-k-at-least-rows
-    (search needs)
+    (search rules)
     returns-read-2-is-not-1
-    (search needs)
+    (search rules)
     returns-last)

@@ -1,5 +1,5 @@
 -- `comes_with` meets its contract, question by question.
-use Rattle.machine.specs.All.{lt-ltb, le-ltb, eq-eqb, ne_eqb, needs}
+use Rattle.machine.specs.All.{lt-ltb, le-ltb, eq-eqb, ne_eqb, rules}
 use Rattle.turn_laws.specs.Staying.{comes_with}
 use Rattle.turn.proofs.staying.comes_with as f
 
@@ -49,9 +49,9 @@ comes-with-spec =
     f.Tie.close
     (f.Tie.spec
     returns-n-at-least-rows
-    (search needs)
+    (search rules)
     returns-read-is-not-block
-    (search needs)
+    (search rules)
     returns-read-is-not-standing
-    (search needs)
+    (search rules)
     returns-last)

@@ -1,5 +1,5 @@
 -- `crowded` meets its contract.
-use Rattle.machine.specs.All.{needs}
+use Rattle.machine.specs.All.{rules}
 use Rattle.turn_laws.specs.Staying.{crowded}
 use Rattle.turn.proofs.staying.crowded as f
 
@@ -19,9 +19,9 @@ pub crowded-spec : {M : Type 1} → f.Statement.statement M
 crowded-spec =
     f.Tie.close
     (f.Tie.spec
-    (search needs)
-    (search needs)
-    (search needs)
+    (search rules)
+    (search rules)
+    (search rules)
     returns-behind
-    (search needs)
+    (search rules)
     returns-last)

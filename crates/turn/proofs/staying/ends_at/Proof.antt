@@ -1,5 +1,5 @@
 -- `ends_at` meets its contract, question by question.
-use Rattle.machine.specs.All.{lt-ltb, le-ltb, eq-eqb, ne_eqb, needs}
+use Rattle.machine.specs.All.{lt-ltb, le-ltb, eq-eqb, ne_eqb, rules}
 use Rattle.turn_laws.specs.Staying.{ends_at}
 use Rattle.turn.proofs.staying.ends_at as f
 
@@ -49,10 +49,10 @@ pub ends-at-spec : {M : Type 1} → f.Statement.statement M
 ends-at-spec =
     f.Tie.close
     (f.Tie.spec
-    (search needs)
+    (search rules)
     returns-c-is-heads-v
     returns-c-below-links
     returns-j-at-least-rows
     returns-j-is-k
-    (search needs)
+    (search rules)
     returns-last)

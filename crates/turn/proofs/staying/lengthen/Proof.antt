@@ -1,5 +1,5 @@
 -- `lengthen` meets its contract.
-use Rattle.machine.specs.All.{◌∙◌, needs}
+use Rattle.machine.specs.All.{◌∙◌, rules}
 use Rattle.turn_laws.specs.Staying.{lengthened_by}
 use Rattle.turn.proofs.staying.lengthen as f
 
@@ -15,10 +15,10 @@ pub lengthen-spec : {M : Type 1} → f.Statement.statement M
 lengthen-spec =
     f.Tie.close
     (f.Tie.spec
-    (search needs)
-    (search needs)
-    (search needs)
-    (search needs)
-    (search needs)
-    (search needs)
+    (search rules)
+    (search rules)
+    (search rules)
+    (search rules)
+    (search rules)
+    (search rules)
     returns)

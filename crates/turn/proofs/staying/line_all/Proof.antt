@@ -1,5 +1,5 @@
 -- `line_all` meets its contract: nobody where a question stops it, else `lines-all`.
-use Rattle.machine.specs.All.{sym, ap, ◌∙◌, arith, not-false, needs}
+use Rattle.machine.specs.All.{sym, ap, ◌∙◌, arith, not-false, rules}
 use Rattle.rows_laws.specs.All.{place, store}
 use Rattle.turn_laws.proofs.Lining.{lines_none, lines-all}
 use Rattle.turn.proofs.staying.line_all as f
@@ -37,26 +37,26 @@ line-all-spec =
     f.Tie.close
     (f.Tie.spec
     (λ c. (λ there. lines_none, omega arith))
-    (search needs)
+    (search rules)
     (λ c. (λ there. lines_none, omega arith))
-    (search needs)
-    (search needs)
+    (search rules)
+    (search rules)
     (λ c. (λ there. lines_none, omega arith))
-    (search needs)
-    (search needs)
+    (search rules)
+    (search rules)
     (λ c. (λ there. lines_none, omega arith))
-    (search needs)
-    (search needs)
-    (search needs)
-    (search needs)
-    (search needs)
+    (search rules)
+    (search rules)
+    (search rules)
+    (search rules)
+    (search rules)
     (λ c. (λ there. lines_none, omega arith))
-    (search needs)
-    (search needs)
+    (search rules)
+    (search rules)
     (λ c. (λ there. lines_none, omega arith))
-    (search needs)
-    (search needs)
-    (search needs)
-    (search needs)
-    (search needs)
+    (search rules)
+    (search rules)
+    (search rules)
+    (search rules)
+    (search rules)
     returns-last)

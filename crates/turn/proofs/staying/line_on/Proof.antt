@@ -1,6 +1,6 @@
 -- `line_on` meets its contract. The loop's invariant: it is amid those who come with row k, `Lining`. The measure is how many more there
 -- may be. Assumes nothing.
-use Rattle.machine.specs.All.{◌-◌, sym, ◌∙◌, ap, ◌%◌, arith, not-false, needs}
+use Rattle.machine.specs.All.{◌-◌, sym, ◌∙◌, ap, ◌%◌, arith, not-false, rules}
 use Rattle.turn_laws.proofs.Lining.{Lining, lining-none, lining-next, lining-done, comes-is}
 use Rattle.turn.proofs.staying.line_on as f
 
@@ -23,12 +23,12 @@ add-get c =
 get-requires : f.Tie.Need-get-requires Inv-loop μ-loop
 get-requires c κs =
     let at-loop : f.Tie.At-loop Inv-loop μ-loop = search in
-    let low = at-loop.loop.inv.row in search needs
+    let low = at-loop.loop.inv.row in search rules
 
 tie-requires : f.Tie.Need-tie-requires Inv-loop μ-loop
 tie-requires c κs =
     let at-loop : f.Tie.At-loop Inv-loop μ-loop = search in
-    let low = at-loop.loop.inv.row in search needs
+    let low = at-loop.loop.inv.row in search rules
 
 same_length : f.Tie.Need-same-length Inv-loop μ-loop
 same_length c =
@@ -47,7 +47,7 @@ returns-not-comes-with c =
 read-requires-3 : f.Tie.Need-read-requires-3 Inv-loop μ-loop
 read-requires-3 c κs =
     let at-comes-with : f.Tie.After-comes-with Inv-loop μ-loop = search in
-    let low = (comes-is _ _ _ _ _ (sym at-comes-with.comes-with.ensures ∙ not-false _ c.before.if1.left)).0 in search needs
+    let low = (comes-is _ _ _ _ _ (sym at-comes-with.comes-with.ensures ∙ not-false _ c.before.if1.left)).0 in search rules
 
 add-set : f.Tie.Need-add-set Inv-loop μ-loop
 add-set c =
@@ -59,12 +59,12 @@ set-requires : f.Tie.Need-set-requires Inv-loop μ-loop
 set-requires c κs =
     let at-else1 : f.Tie.Else1 Inv-loop μ-loop = search in
     let at-comes-with : f.Tie.After-comes-with Inv-loop μ-loop = search in
-    let low = (comes-is _ _ _ _ _ (sym at-comes-with.comes-with.ensures ∙ not-false _ at-else1.if1.left)).0 in search needs
+    let low = (comes-is _ _ _ _ _ (sym at-comes-with.comes-with.ensures ∙ not-false _ at-else1.if1.left)).0 in search rules
 
 tie-requires-2 : f.Tie.Need-tie-requires-2 Inv-loop μ-loop
 tie-requires-2 c κs =
     let at-loop : f.Tie.At-loop Inv-loop μ-loop = search in
-    let low = at-loop.loop.inv.row in search needs
+    let low = at-loop.loop.inv.row in search rules
 
 same-length-2 : f.Tie.Need-same-length-2 Inv-loop μ-loop
 same-length-2 c =
@@ -98,12 +98,12 @@ line-on-spec =
     (f.Tie.spec
     Inv-loop
     μ-loop
-    (search needs)
-    (search needs)
+    (search rules)
+    (search rules)
     loop-holds
     add-get
     get-requires
-    (search needs)
+    (search rules)
     tie-requires
     same_length
     returns-not-comes-with

@@ -1,5 +1,5 @@
 -- `quiet` meets its contract, by one case after the other.
-use Rattle.machine.specs.All.{lt-ltb, le-ltb, eq-eqb, ne_eqb, needs}
+use Rattle.machine.specs.All.{lt-ltb, le-ltb, eq-eqb, ne_eqb, rules}
 use Rattle.turn_laws.specs.Staying.{quiet}
 use Rattle.turn.proofs.staying.quiet as f
 
@@ -40,12 +40,12 @@ quiet-spec =
     f.Tie.close
     (f.Tie.spec
     returns-block-is-0
-    (search needs)
-    (search needs)
+    (search rules)
+    (search rules)
     returns-b-at-least-max-blocks
-    (search needs)
-    (search needs)
+    (search rules)
+    (search rules)
     returns-number-is-not-kind
-    (search needs)
-    (search needs)
+    (search rules)
+    (search rules)
     returns-last)

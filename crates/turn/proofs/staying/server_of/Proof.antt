@@ -1,5 +1,5 @@
 -- `server_of` meets its contract: the server that stands behind the block's kind.
-use Rattle.machine.specs.All.{◌∙◌, needs}
+use Rattle.machine.specs.All.{◌∙◌, rules}
 use Rattle.turn.proofs.staying.server_of as f
 
 returns : f.Tie.Need-returns
@@ -11,9 +11,9 @@ pub server-of-spec : {M : Type 1} → f.Statement.statement M
 server-of-spec =
     f.Tie.close
     (f.Tie.spec
-    (search needs)
-    (search needs)
-    (search needs)
-    (search needs)
-    (search needs)
+    (search rules)
+    (search rules)
+    (search rules)
+    (search rules)
+    (search rules)
     returns)

@@ -1,5 +1,5 @@
 -- `short` meets its contract: the units that are free beside those that the block takes.
-use Rattle.machine.specs.All.{needs}
+use Rattle.machine.specs.All.{rules}
 use Rattle.turn_laws.specs.Staying.{short}
 use Rattle.turn.proofs.staying.short as f
 
@@ -24,14 +24,14 @@ pub short-spec : {M : Type 1} → f.Statement.statement M
 short-spec =
     f.Tie.close
     (f.Tie.spec
-    (search needs)
-    (search needs)
-    (search needs)
-    (search needs)
-    (search needs)
-    (search needs)
-    (search needs)
-    (search needs)
-    (search needs)
-    (search needs)
+    (search rules)
+    (search rules)
+    (search rules)
+    (search rules)
+    (search rules)
+    (search rules)
+    (search rules)
+    (search rules)
+    (search rules)
+    (search rules)
     returns)

@@ -1,5 +1,5 @@
 -- `stay` meets its contract, by cases on whether there is a first.
-use Rattle.machine.specs.All.{◌∙◌, lt-ltb, le-ltb, needs}
+use Rattle.machine.specs.All.{◌∙◌, lt-ltb, le-ltb, rules}
 use Rattle.turn_laws.specs.Staying.{stayed}
 use Rattle.turn.proofs.staying.stay as f
 
@@ -21,10 +21,10 @@ pub stay-spec : {M : Type 1} → f.Statement.statement M
 stay-spec =
     f.Tie.close
     (f.Tie.spec
-    (search needs)
-    (search needs)
+    (search rules)
+    (search rules)
     returns-k-at-least-rows
-    (search needs)
-    (search needs)
-    (search needs)
+    (search rules)
+    (search rules)
+    (search rules)
     returns-last)

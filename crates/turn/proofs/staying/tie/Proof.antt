@@ -1,5 +1,5 @@
 -- `tie` meets its contract, store by store.
-use Rattle.machine.specs.All.{◌∙◌, needs}
+use Rattle.machine.specs.All.{◌∙◌, rules}
 use Rattle.turn_laws.specs.Staying.{tied}
 use Rattle.turn.proofs.staying.tie as f
 
@@ -17,16 +17,16 @@ pub tie-spec : {M : Type 1} → f.Statement.statement M
 tie-spec =
     f.Tie.close
     (f.Tie.spec
-    (search needs)
-    (search needs)
-    (search needs)
-    (search needs)
-    (search needs)
-    (search needs)
-    (search needs)
-    (search needs)
-    (search needs)
-    (search needs)
-    (search needs)
-    (search needs)
+    (search rules)
+    (search rules)
+    (search rules)
+    (search rules)
+    (search rules)
+    (search rules)
+    (search rules)
+    (search rules)
+    (search rules)
+    (search rules)
+    (search rules)
+    (search rules)
     returns)

@@ -1,5 +1,5 @@
 -- `assign` meets its contract: the parameter is written, then the transaction goes on.
-use Rattle.machine.specs.All.{◌∙◌, needs}
+use Rattle.machine.specs.All.{◌∙◌, rules}
 use Rattle.values_queues_laws.specs.Comparison.{assign_rows}
 use Rattle.values_queues.proofs.comparison.assign.Statement.{statement}
 use Rattle.values_queues.proofs.comparison.assign.Tie as tie
@@ -14,4 +14,4 @@ returns c =
     at-go-on.go_on.ensures ∙ rw (at-set-parameter.set-parameter.ensures, at-number.number.ensures, at-worth.worth.ensures)
 
 pub assign-spec : {M : Type 1} → statement M
-assign-spec = tie.close (tie.spec (search needs) (search needs) (search needs) (search needs) (search needs) (search needs) returns)
+assign-spec = tie.close (tie.spec (search rules) (search rules) (search rules) (search rules) (search rules) (search rules) returns)

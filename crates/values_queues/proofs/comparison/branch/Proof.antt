@@ -1,5 +1,5 @@
 -- `branch` meets its contract, by cases on the comparison.
-use Rattle.machine.specs.All.{◌∙◌, needs}
+use Rattle.machine.specs.All.{◌∙◌, rules}
 use Rattle.values_queues_laws.specs.Comparison.{branch_rows}
 use Rattle.values_queues.proofs.comparison.branch.Statement.{statement}
 use Rattle.values_queues.proofs.comparison.branch.Tie as tie
@@ -25,12 +25,12 @@ pub branch-spec : {M : Type 1} → statement M
 branch-spec =
     tie.close
     (tie.spec
-    (search needs)
-    (search needs)
-    (search needs)
-    (search needs)
-    (search needs)
+    (search rules)
+    (search rules)
+    (search rules)
+    (search rules)
+    (search rules)
     taken
-    (search needs)
-    (search needs)
+    (search rules)
+    (search rules)
     goes_on)

@@ -1,6 +1,6 @@
 -- `parameters_of` meets its contract: four reads.
 use Rattle.values_queues_laws.specs.Comparison.{parameters_at}
-use Rattle.machine.specs.All.{needs}
+use Rattle.machine.specs.All.{rules}
 use Rattle.values_queues.proofs.comparison.parameters_of.Statement.{statement}
 use Rattle.values_queues.proofs.comparison.parameters_of.Tie as tie
 
@@ -13,4 +13,4 @@ returns c =
     rw (at_read.read.ensures, at-read2.read2.ensures, at-read3.read3.ensures, c.read4.ensures)
 
 pub parameters-of-spec : {M : Type 1} → statement M
-parameters-of-spec = tie.close (tie.spec (search needs) (search needs) (search needs) (search needs) returns)
+parameters-of-spec = tie.close (tie.spec (search rules) (search rules) (search rules) (search rules) returns)

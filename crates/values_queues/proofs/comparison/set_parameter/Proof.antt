@@ -1,5 +1,5 @@
 -- `set_parameter` meets its contract, by cases on whether there is such a parameter.
-use Rattle.machine.specs.All.{lt-ltb, le-ltb, needs}
+use Rattle.machine.specs.All.{lt-ltb, le-ltb, rules}
 use Rattle.values_queues_laws.specs.Comparison.{set_parameter}
 use Rattle.values_queues.proofs.comparison.set_parameter.Statement.{statement}
 use Rattle.values_queues.proofs.comparison.set_parameter.Tie as tie
@@ -16,4 +16,4 @@ stored c =
     rw (lt-ltb _ 4 at-else1.if1.left) at-write.write.ensures
 
 pub set-parameter-spec : {M : Type 1} → statement M
-set-parameter-spec = tie.close (tie.spec no-parameter (search needs) (search needs) (search needs) stored)
+set-parameter-spec = tie.close (tie.spec no-parameter (search rules) (search rules) (search rules) stored)

@@ -1,6 +1,6 @@
 -- `wait_terms` meets its contract, by cases on the comparison.
 use Rattle.values_queues_laws.specs.Waits.{wait_terms_rows}
-use Rattle.machine.specs.All.{needs}
+use Rattle.machine.specs.All.{rules}
 use Rattle.values_queues.proofs.comparison.wait_terms.Statement.{statement}
 use Rattle.values_queues.proofs.comparison.wait_terms.Tie as tie
 
@@ -21,4 +21,4 @@ returns-2 c =
     rw (← at_held.held.ensures, at-else1.if1.left) at-go-on.go_on.ensures
 
 pub wait-terms-spec : {M : Type 1} → statement M
-wait-terms-spec = tie.close (tie.spec (search needs) (search needs) (search needs) returns (search needs) (search needs) returns-2)
+wait-terms-spec = tie.close (tie.spec (search rules) (search rules) (search rules) returns (search rules) (search rules) returns-2)

@@ -1,5 +1,5 @@
 -- `worth` meets its contract: the bits of what the term is worth.
-use Rattle.machine.specs.All.{◌∙◌, needs}
+use Rattle.machine.specs.All.{◌∙◌, rules}
 use Rattle.values_queues_laws.specs.Comparison.{worth_at}
 use Rattle.evaluation.proofs.Signs.{back}
 use Rattle.values_queues.proofs.comparison.worth.Statement.{statement}
@@ -14,4 +14,4 @@ returns c =
     c.bits.ensures ∙ rw (worth, at-parameters-of.parameters-of.ensures)
 
 pub worth-spec : {M : Type 1} → statement M
-worth-spec = tie.close (tie.spec (search needs) (search needs) (search needs) (search needs) returns)
+worth-spec = tie.close (tie.spec (search rules) (search rules) (search rules) (search rules) returns)

@@ -1,5 +1,5 @@
 -- `goto` meets its contract: it goes to the block that the tables name.
-use Rattle.machine.specs.All.{◌∙◌, needs}
+use Rattle.machine.specs.All.{◌∙◌, rules}
 use Rattle.values_queues_laws.specs.Jumps.{goto_rows}
 use Rattle.values_queues.proofs.jumps.goto.Statement.{statement}
 use Rattle.values_queues.proofs.jumps.goto.Tie as tie
@@ -12,4 +12,4 @@ returns c =
     at-go-to.go-to.ensures ∙ rw at-number.number.ensures
 
 pub goto-spec : {M : Type 1} → statement M
-goto-spec = tie.close (tie.spec (search needs) (search needs) (search needs) (search needs) returns)
+goto-spec = tie.close (tie.spec (search rules) (search rules) (search rules) (search rules) returns)

@@ -1,6 +1,6 @@
 -- `arrive` meets its contract: one content more.
 use Rattle.values_queues_laws.specs.Queues.{arrive_rows}
-use Rattle.machine.specs.All.{needs}
+use Rattle.machine.specs.All.{rules}
 use Rattle.values_queues.proofs.queues.arrive.Statement.{statement}
 use Rattle.values_queues.proofs.queues.arrive.Tie as tie
 
@@ -15,4 +15,4 @@ returns c =
 
 pub arrive-spec : {M : Type 1} → statement M
 arrive-spec =
-    tie.close (tie.spec (search needs) (search needs) (search needs) (search needs) (search needs) (search needs) (search needs) returns)
+    tie.close (tie.spec (search rules) (search rules) (search rules) (search rules) (search rules) (search rules) (search rules) returns)

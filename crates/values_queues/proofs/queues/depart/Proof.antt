@@ -1,5 +1,5 @@
 -- `depart` meets its contract, by cases on whether there is content.
-use Rattle.machine.specs.All.{eq-eqb, ne_eqb, needs}
+use Rattle.machine.specs.All.{eq-eqb, ne_eqb, rules}
 use Rattle.values_queues_laws.specs.Queues.{depart_rows}
 use Rattle.values_queues.proofs.queues.depart.Statement.{statement}
 use Rattle.values_queues.proofs.queues.depart.Tie as tie
@@ -25,14 +25,14 @@ pub depart-spec : {M : Type 1} → statement M
 depart-spec =
     tie.close
     (tie.spec
-    (search needs)
-    (search needs)
-    (search needs)
-    (search needs)
-    (search needs)
+    (search rules)
+    (search rules)
+    (search rules)
+    (search rules)
+    (search rules)
     stopped
-    (search needs)
-    (search needs)
-    (search needs)
-    (search needs)
+    (search rules)
+    (search rules)
+    (search rules)
+    (search rules)
     one_less)

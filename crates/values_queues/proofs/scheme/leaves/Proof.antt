@@ -1,5 +1,5 @@
 -- `leaves` meets its contract, by cases on the block at which the row stands.
-use Rattle.machine.specs.All.{ap, not, lt-ltb, le-ltb, eq-eqb, ne_eqb, needs}
+use Rattle.machine.specs.All.{ap, not, lt-ltb, le-ltb, eq-eqb, ne_eqb, rules}
 use Rattle.values_queues_laws.specs.Scheme.{leaves_from, leaves_by_lem}
 use Rattle.values_queues_laws.proofs.Sharing.{held-related}
 use Rattle.values_queues.proofs.scheme.leaves.Statement.{statement}
@@ -34,15 +34,15 @@ pub leaves-spec : {M : Type 1} → statement M
 leaves-spec =
     tie.close
     (tie.spec
-    (search needs)
+    (search rules)
     returns
-    (search needs)
+    (search rules)
     returns-2
-    (search needs)
-    (search needs)
-    (search needs)
-    (search needs)
-    (search needs)
-    (search needs)
-    (search needs)
+    (search rules)
+    (search rules)
+    (search rules)
+    (search rules)
+    (search rules)
+    (search rules)
+    (search rules)
     returns-3)

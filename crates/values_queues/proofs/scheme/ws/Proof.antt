@@ -1,6 +1,6 @@
 -- `ws` meets its contract. The invariant: the rest of the walk from here is the whole walk, and the answers for all are those of the
 -- block that was seen last. The measure: the steps left.
-use Rattle.machine.specs.All.{◌+◌, ◌-◌, ◌≤◌, ◌≡◌, refl, sym, ◌∙◌, arith, needs, eq-eqb, ne_eqb, length}
+use Rattle.machine.specs.All.{◌+◌, ◌-◌, ◌≤◌, ◌≡◌, refl, sym, ◌∙◌, arith, rules, eq-eqb, ne_eqb, length}
 use Rattle.rows_laws.specs.All.{head, wsl, wake_all}
 use Rattle.rows_laws.proofs.Steps.{wake_all-end, wake_all-stop, wake_all-next}
 use Rattle.values_queues_laws.specs.{Scheme.leaves, Scheme.ws_scheme, Sides.ForAll}
@@ -68,17 +68,17 @@ ws-spec =
     decreases-loop
     returns
     loop-holds
-    (search needs)
+    (search rules)
     (omega arith)
     returns-2
-    (search needs)
+    (search rules)
     (omega arith)
     (omega arith)
-    (search needs)
+    (search rules)
     (omega arith)
     (omega arith)
-    (search needs)
-    (search needs)
+    (search rules)
+    (search rules)
     (omega arith)
     (omega arith)
     loop-again

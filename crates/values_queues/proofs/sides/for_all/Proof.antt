@@ -1,5 +1,5 @@
 -- `for_all` meets its contract, by cases on whether a parameter is named.
-use Rattle.machine.specs.All.{arith, sym, ◌∙◌, needs}
+use Rattle.machine.specs.All.{arith, sym, ◌∙◌, rules}
 use Rattle.values_queues_laws.proofs.Sharing.{own-inside, for-all-none, for-all_bits}
 use Rattle.values_queues.proofs.sides.for_all.Statement.{statement}
 use Rattle.values_queues.proofs.sides.for_all.Tie as tie
@@ -19,4 +19,4 @@ same_answer c =
     c.bits.ensures
 
 pub for-all-spec : {M : Type 1} → statement M
-for-all-spec = tie.close (tie.spec (search needs) own-answer term-at-requires (search needs) (search needs) same_answer)
+for-all-spec = tie.close (tie.spec (search rules) own-answer term-at-requires (search rules) (search rules) same_answer)

@@ -1,5 +1,5 @@
 -- `held` meets its contract: both sides, then the relation.
-use Rattle.machine.specs.All.{needs}
+use Rattle.machine.specs.All.{rules}
 use Rattle.values_queues_laws.specs.Waits.{held_at}
 use Rattle.values_queues_laws.proofs.Sharing.{held-related}
 use Rattle.values_queues.proofs.sides.held.Statement.{statement}
@@ -16,4 +16,4 @@ returns c =
 
 pub held_spec : {M : Type 1} → statement M
 held_spec =
-    tie.close (tie.spec (search needs) (search needs) (search needs) (search needs) (search needs) (search needs) (search needs) returns)
+    tie.close (tie.spec (search rules) (search rules) (search rules) (search rules) (search rules) (search rules) (search rules) returns)

@@ -1,5 +1,5 @@
 -- `held_by_all` meets its contract, by cases on whether a side names a parameter.
-use Rattle.machine.specs.All.{needs}
+use Rattle.machine.specs.All.{rules}
 use Rattle.values_queues_laws.specs.Waits.{held_by_all}
 use Rattle.values_queues.proofs.sides.held_by_all.Statement.{statement}
 use Rattle.values_queues.proofs.sides.held_by_all.Tie as tie
@@ -30,12 +30,12 @@ pub held-by-all-spec : {M : Type 1} → statement M
 held-by-all-spec =
     tie.close
     (tie.spec
-    (search needs)
-    (search needs)
+    (search rules)
+    (search rules)
     returns
-    (search needs)
-    (search needs)
+    (search rules)
+    (search rules)
     returns-2
-    (search needs)
-    (search needs)
+    (search rules)
+    (search rules)
     returns-3)

@@ -1,5 +1,5 @@
 -- `names_own` meets its contract, by cases on the tag.
-use Rattle.machine.specs.All.{lt-ltb, le-ltb, eq-eqb, ne_eqb, needs}
+use Rattle.machine.specs.All.{lt-ltb, le-ltb, eq-eqb, ne_eqb, rules}
 use Rattle.values_queues_laws.specs.Sides.{names_own}
 use Rattle.values_queues.proofs.sides.names_own.Statement.{statement}
 use Rattle.values_queues.proofs.sides.names_own.Tie as tie
@@ -45,12 +45,12 @@ names-own-spec =
     tie.close
     (tie.spec
     outside
-    (search needs)
+    (search rules)
     parameter-named
     plain-term
-    (search needs)
-    (search needs)
-    (search needs)
-    (search needs)
-    (search needs)
+    (search rules)
+    (search rules)
+    (search rules)
+    (search rules)
+    (search rules)
     by_value)

@@ -1,9 +1,9 @@
 -- `own` meets its contract, by cases on whether the term is a parameter by itself.
-use Rattle.machine.specs.All.{sym, ap, ◌∙◌, signed, needs}
+use Rattle.machine.specs.All.{sym, ap, ◌∙◌, signed, rules}
 use Rattle.evaluation.proofs.Signs.{back}
 use Rattle.values_queues_laws.proofs.Sharing.{parameter-term}
-use Rattle.values_queues.proofs.sides.own.Statement.{statement}
-use Rattle.values_queues.proofs.sides.own.Tie as tie
+use Rattle.values_queues.proofs.sides.Own.Statement.{statement}
+use Rattle.values_queues.proofs.sides.Own.Tie as tie
 
 parameter-read : tie.Need-returns
 parameter-read c =
@@ -23,12 +23,12 @@ pub own-spec : {M : Type 1} → statement M
 own-spec =
     tie.close
     (tie.spec
-    (search needs)
-    (search needs)
-    (search needs)
-    (search needs)
-    (search needs)
+    (search rules)
+    (search rules)
+    (search rules)
+    (search rules)
+    (search rules)
     parameter-read
-    (search needs)
-    (search needs)
+    (search rules)
+    (search rules)
     evaluated)

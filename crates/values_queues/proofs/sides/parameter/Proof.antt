@@ -1,5 +1,5 @@
 -- `parameter` meets its contract, by cases on whether there is one.
-use Rattle.machine.specs.All.{◌∙◌, needs}
+use Rattle.machine.specs.All.{◌∙◌, rules}
 use Rattle.values_queues_laws.proofs.Sharing.{parameter-past, parameter-read}
 use Rattle.values_queues.proofs.sides.parameter.Statement.{statement}
 use Rattle.values_queues.proofs.sides.parameter.Tie as tie
@@ -11,4 +11,4 @@ a-parameter : tie.Need-returns-2
 a-parameter c = c.read.ensures ∙ parameter-read _ _ _ c.before.if1.false
 
 pub parameter-spec : {M : Type 1} → statement M
-parameter-spec = tie.close (tie.spec no-parameter (search needs) (search needs) a-parameter)
+parameter-spec = tie.close (tie.spec no-parameter (search rules) (search rules) a-parameter)

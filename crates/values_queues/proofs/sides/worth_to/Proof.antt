@@ -1,5 +1,5 @@
 -- `worth_to` meets its contract, by cases on whether a parameter is named.
-use Rattle.machine.specs.All.{◌∙◌, needs}
+use Rattle.machine.specs.All.{◌∙◌, rules}
 use Rattle.evaluation.proofs.Signs.{back}
 use Rattle.values_queues_laws.specs.Sides.{side_at}
 use Rattle.values_queues.proofs.sides.worth_to.Statement.{statement}
@@ -17,4 +17,4 @@ returns-2 c =
     rw (← at-names-own.names-own.ensures, at-else1.if1.left) (back _ c.term-at.type-inv ∙ c.term-at.ensures)
 
 pub worth-to-spec : {M : Type 1} → statement M
-worth-to-spec = tie.close (tie.spec (search needs) (search needs) returns (search needs) returns-2)
+worth-to-spec = tie.close (tie.spec (search rules) (search rules) returns (search rules) returns-2)

@@ -1,5 +1,5 @@
 -- `asked` meets its contract: the entries first, then what else the block changes.
-use Rattle.machine.specs.All.{eq-eqb, ne_eqb, needs}
+use Rattle.machine.specs.All.{eq-eqb, ne_eqb, rules}
 use Rattle.watch.specs.{asked_of}
 use Rattle.watch.proofs.reads.asked as f
 
@@ -18,8 +18,8 @@ returns-last c =
 pub asked-spec : {M : Type 1} → f.Statement.statement M
 asked-spec =
     f.Tie.close (f.Tie.spec
-    (search needs)
+    (search rules)
     returns-number-is-not-0
-    (search needs)
-    (search needs)
+    (search rules)
+    (search rules)
     returns-last)

@@ -1,5 +1,5 @@
 -- `changed` meets its contract: each arm is its line of the definition.
-use Rattle.machine.specs.All.{ne_eqb, needs}
+use Rattle.machine.specs.All.{ne_eqb, rules}
 use Rattle.watch.specs.{changed_cell}
 use Rattle.watch.proofs.reads.changed as f
 
@@ -70,19 +70,19 @@ pub changed-spec : {M : Type 1} → f.Statement.statement M
 changed-spec =
     f.Tie.close
     (f.Tie.spec
-    (search needs)
-    (search needs)
-    (search needs)
-    (search needs)
-    (search needs)
-    (search needs)
-    (search needs)
-    (search needs)
-    (search needs)
-    (search needs)
-    (search needs)
-    (search needs)
-    (search needs)
+    (search rules)
+    (search rules)
+    (search rules)
+    (search rules)
+    (search rules)
+    (search rules)
+    (search rules)
+    (search rules)
+    (search rules)
+    (search rules)
+    (search rules)
+    (search rules)
+    (search rules)
     returns-case-4
     returns-case-5
     returns-case-6

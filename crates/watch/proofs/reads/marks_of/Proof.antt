@@ -1,5 +1,5 @@
 -- `marks_of` meets its contract: the WAITIFs, then through the values.
-use Rattle.machine.specs.All.{◌∙◌, needs}
+use Rattle.machine.specs.All.{◌∙◌, rules}
 use Rattle.watch.proofs.reads.marks_of as f
 
 returns : f.Tie.Need-returns
@@ -10,7 +10,7 @@ returns c =
 
 pub marks-of-spec : {M : Type 1} → f.Statement.statement M
 marks-of-spec = f.Tie.close (f.Tie.spec
-    (search needs)
-    (search needs)
-    (search needs)
+    (search rules)
+    (search rules)
+    (search rules)
     returns)

@@ -1,5 +1,5 @@
 -- `names_own` meets its contract: the value alone is marked, and what it reaches.
-use Rattle.machine.specs.All.{◌∙◌, needs}
+use Rattle.machine.specs.All.{◌∙◌, rules}
 use Rattle.watch.specs.{own_of}
 use Rattle.watch.proofs.reads.names_own as f
 
@@ -14,11 +14,11 @@ pub names-own-spec : {M : Type 1} → f.Statement.statement M
 names-own-spec =
     f.Tie.close
     (f.Tie.spec
-    (search needs)
-    (search needs)
-    (search needs)
-    (search needs)
-    (search needs)
-    (search needs)
-    (search needs)
+    (search rules)
+    (search rules)
+    (search rules)
+    (search rules)
+    (search rules)
+    (search rules)
+    (search rules)
     returns)

@@ -1,5 +1,5 @@
 -- `reach_value` meets its contract, by cases on whether the value is marked.
-use Rattle.machine.specs.All.{ap, eq-eqb, ne_eqb, needs}
+use Rattle.machine.specs.All.{ap, eq-eqb, ne_eqb, rules}
 use Rattle.watch.specs.{Walked, walked, reach_value}
 use Rattle.watch.proofs.reads.reach_value as f
 
@@ -22,14 +22,14 @@ pub reach-value-spec : {M : Type 1} → f.Statement.statement M
 reach-value-spec =
     f.Tie.close
     (f.Tie.spec
-    (search needs)
-    (search needs)
-    (search needs)
+    (search rules)
+    (search rules)
+    (search rules)
     returns-number-is-0
-    (search needs)
-    (search needs)
-    (search needs)
-    (search needs)
-    (search needs)
-    (search needs)
+    (search rules)
+    (search rules)
+    (search rules)
+    (search rules)
+    (search rules)
+    (search rules)
     returns-last)

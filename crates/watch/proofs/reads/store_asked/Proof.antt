@@ -1,5 +1,5 @@
 -- `store_asked` meets its contract. The invariant: the first b blocks are done. The measure: the blocks left.
-use Rattle.machine.specs.All.{◌-◌, ◌≤◌, arith, ◌≡◌, refl, ◌∙◌, needs, length}
+use Rattle.machine.specs.All.{◌-◌, ◌≤◌, arith, ◌≡◌, refl, ◌∙◌, rules, length}
 use Rattle.watch.specs.{asked_stored}
 use Rattle.watch.proofs as our
 use our.Loops.{asked-none, asked-next, asked-all}
@@ -31,7 +31,7 @@ store-asked-spec =
     (λ c. (asked-none _ _, (omega arith, refl)))
     (omega arith)
     (omega arith)
-    (search needs)
+    (search rules)
     (omega arith)
     (omega arith)
     loop-again

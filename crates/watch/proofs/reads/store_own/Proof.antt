@@ -1,5 +1,5 @@
 -- `store_own` meets its contract. The invariant: the first k values are done. The measure: the values left.
-use Rattle.machine.specs.All.{◌-◌, ◌≤◌, arith, ◌≡◌, refl, ◌∙◌, needs, length}
+use Rattle.machine.specs.All.{◌-◌, ◌≤◌, arith, ◌≡◌, refl, ◌∙◌, rules, length}
 use Rattle.watch.specs.{own_stored}
 use Rattle.watch.proofs as our
 use our.Loops.{own-none, own-next, own-all}
@@ -31,7 +31,7 @@ store-own-spec =
     (λ c. (own-none _ _, (omega arith, refl)))
     (λ c κs. (omega arith, omega arith))
     (omega arith)
-    (search needs)
+    (search rules)
     (omega arith)
     (omega arith)
     loop-again

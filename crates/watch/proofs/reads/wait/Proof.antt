@@ -1,5 +1,5 @@
 -- `wait` meets its contract, by cases on the kind of the block.
-use Rattle.machine.specs.All.{ap, eq-eqb, ne_eqb, needs}
+use Rattle.machine.specs.All.{ap, eq-eqb, ne_eqb, rules}
 use Rattle.watch.specs.{Walked, walked, wait_marks}
 use Rattle.watch.proofs.reads.wait as f
 
@@ -19,9 +19,9 @@ returns-last c =
 pub wait_spec : {M : Type 1} → f.Statement.statement M
 wait_spec =
     f.Tie.close (f.Tie.spec
-    (search needs)
-    (search needs)
+    (search rules)
+    (search rules)
     returns-number-is-not-wait-terms
-    (search needs)
-    (search needs)
+    (search rules)
+    (search rules)
     returns-last)

@@ -2,7 +2,7 @@
 use Rattle.watch.proofs as our
 use our.Loops.{watched-by}
 use our.reads.watch as f
-use Rattle.machine.specs.All.{needs}
+use Rattle.machine.specs.All.{rules}
 
 returns : f.Tie.Need-returns
 returns c =
@@ -18,13 +18,13 @@ pub watch-spec : {M : Type 1} → f.Statement.statement M
 watch-spec =
     f.Tie.close
     (f.Tie.spec
-    (search needs)
-    (search needs)
-    (search needs)
-    (search needs)
-    (search needs)
-    (search needs)
-    (search needs)
-    (search needs)
-    (search needs)
+    (search rules)
+    (search rules)
+    (search rules)
+    (search rules)
+    (search rules)
+    (search rules)
+    (search rules)
+    (search rules)
+    (search rules)
     returns)

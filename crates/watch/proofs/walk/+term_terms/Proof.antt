@@ -1,5 +1,5 @@
 -- The proof of the cycle of calls: a term and the terms of a bracket call each other. The measure: brackets that may open, then terms left.
-use Rattle.machine.specs.All.{◌+◌, ◌*◌, sym, needs, ℕ, ◌<◌}
+use Rattle.machine.specs.All.{◌+◌, ◌*◌, sym, rules, ℕ, ◌<◌}
 use Rattle.watch.proofs as our
 use our.Steps.{term-past, term_simple, term_deep, term-comparison, term-bracket, terms-none, terms-past, terms-more}
 use our.walk.term.Reads as term
@@ -46,22 +46,22 @@ term-returns : (t : ℕ) → term-lts.Need-returns (term-claims t) (term-at t) t
 term-returns t c = sym (term-past _ _ _ _ _ c.if1.true)
 
 term-number-requires : (t : ℕ) → term-lts.Need-number-requires (term-claims t) (term-at t) term.Post
-term-number-requires t c κs = search needs
+term-number-requires t c κs = search rules
 
 term-add-number : (t : ℕ) → term-lts.Need-overflow-add-number (term-claims t) (term-at t) term.Post
-term-add-number t c = search needs
+term-add-number t c = search rules
 
 term-number-requires-2 : (t : ℕ) → term-lts.Need-number-requires-2 (term-claims t) (term-at t) term.Post
-term-number-requires-2 t c κs = search needs
+term-number-requires-2 t c κs = search rules
 
 term-mark-requires : (t : ℕ) → term-lts.Need-mark-requires (term-claims t) (term-at t) term.Post
-term-mark-requires t c κs = search needs
+term-mark-requires t c κs = search rules
 
 term-add-result : (t : ℕ) → term-lts.Need-overflow-add-result (term-claims t) (term-at t) term.Post
-term-add-result t c = search needs
+term-add-result t c = search rules
 
 term-same-length : (t : ℕ) → term-lts.Need-same-length (term-claims t) (term-at t) term.Post
-term-same-length t c = search needs
+term-same-length t c = search rules
 
 term-returns-2 : (t : ℕ) → term-lts.Need-returns-2 (term-claims t) (term-at t) term.Post
 term-returns-2 t c =
@@ -71,7 +71,7 @@ term-returns-2 t c =
     c.before.before.before.before.if2.true))
 
 term-add-result-2 : (t : ℕ) → term-lts.Need-overflow-add-result-2 (term-claims t) (term-at t) term.Post
-term-add-result-2 t c = search needs
+term-add-result-2 t c = search rules
 
 term-returns-3 : (t : ℕ) → term-lts.Need-returns-3 (term-claims t) (term-at t) term.Post
 term-returns-3 t c =
@@ -79,16 +79,16 @@ term-returns-3 t c =
     c.before.before.number2.ensures _ c.if3.true c.before.if2.false)
 
 term-sub-terms : (t : ℕ) → term-lts.Need-overflow-sub-terms (term-claims t) (term-at t) term.Post
-term-sub-terms t c = search needs
+term-sub-terms t c = search rules
 
 term-add-terms : (t : ℕ) → term-lts.Need-overflow-add-terms (term-claims t) (term-at t) term.Post
-term-add-terms t c = search needs
+term-add-terms t c = search rules
 
 term-terms-requires : (t : ℕ) → term-lts.Need-terms-requires (term-claims t) (term-at t) term.Post
-term-terms-requires t c κs = search needs
+term-terms-requires t c κs = search rules
 
 term-same-length-2 : (t : ℕ) → term-lts.Need-same-length-2 (term-claims t) (term-at t) term.Post
-term-same-length-2 t c = search needs
+term-same-length-2 t c = search rules
 
 term-returns-4 : (t : ℕ) → term-lts.Need-returns-4 (term-claims t) (term-at t) term.Post
 term-returns-4 t c =
@@ -102,16 +102,16 @@ term-returns-4 t c =
     )
 
 term-sub-terms-2 : (t : ℕ) → term-lts.Need-overflow-sub-terms-2 (term-claims t) (term-at t) term.Post
-term-sub-terms-2 t c = search needs
+term-sub-terms-2 t c = search rules
 
 term-add-terms-2 : (t : ℕ) → term-lts.Need-overflow-add-terms-2 (term-claims t) (term-at t) term.Post
-term-add-terms-2 t c = search needs
+term-add-terms-2 t c = search rules
 
 term-terms-requires-2 : (t : ℕ) → term-lts.Need-terms-requires-2 (term-claims t) (term-at t) term.Post
-term-terms-requires-2 t c κs = search needs
+term-terms-requires-2 t c κs = search rules
 
 term-same-length-3 : (t : ℕ) → term-lts.Need-same-length-3 (term-claims t) (term-at t) term.Post
-term-same-length-3 t c = search needs
+term-same-length-3 t c = search rules
 
 term-returns-5 : (t : ℕ) → term-lts.Need-returns-5 (term-claims t) (term-at t) term.Post
 term-returns-5 t c =
@@ -132,19 +132,19 @@ terms-returns-2 : (t : ℕ) → terms-lts.Need-returns-2 (terms-claims t) (terms
 terms-returns-2 t c = sym (terms-past _ _ _ _ _ _ c.if2.true)
 
 terms-add-term : (t : ℕ) → terms-lts.Need-overflow-add-term (terms-claims t) (terms-at t) terms.Post
-terms-add-term t c = search needs
+terms-add-term t c = search rules
 
 terms-term-requires : (t : ℕ) → terms-lts.Need-term-requires (terms-claims t) (terms-at t) terms.Post
-terms-term-requires t c κs = search needs
+terms-term-requires t c κs = search rules
 
 terms-sub-terms : (t : ℕ) → terms-lts.Need-overflow-sub-terms (terms-claims t) (terms-at t) terms.Post
-terms-sub-terms t c = search needs
+terms-sub-terms t c = search rules
 
 terms-terms-requires : (t : ℕ) → terms-lts.Need-terms-requires (terms-claims t) (terms-at t) terms.Post
-terms-terms-requires t c κs = search needs
+terms-terms-requires t c κs = search rules
 
 terms-same-length : (t : ℕ) → terms-lts.Need-same-length (terms-claims t) (terms-at t) terms.Post
-terms-same-length t c = search needs
+terms-same-length t c = search rules
 
 terms-returns-3 : (t : ℕ) → terms-lts.Need-returns-3 (terms-claims t) (terms-at t) terms.Post
 terms-returns-3 t c =

@@ -1,5 +1,5 @@
 -- `cell` meets its contract: each way is its line of the definition.
-use Rattle.machine.specs.All.{lt-ltb, le-ltb, eq-eqb, ne_eqb, needs}
+use Rattle.machine.specs.All.{lt-ltb, le-ltb, eq-eqb, ne_eqb, rules}
 use Rattle.watch.specs.{cell_of}
 use Rattle.watch.proofs.walk.cell as f
 
@@ -100,10 +100,10 @@ cell-spec =
     returns-tag-is-2
     returns-tag-is-3
     returns-tag-is-4
-    (search needs)
+    (search rules)
     returns-tag-is-5
-    (search needs)
+    (search rules)
     returns-tag-below-value-tag
-    (search needs)
+    (search rules)
     returns-i-below-lower
     returns-last)

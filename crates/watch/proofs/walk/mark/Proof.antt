@@ -1,5 +1,5 @@
 -- `mark` meets its contract: a store at the cell.
-use Rattle.machine.specs.All.{◌∙◌, needs}
+use Rattle.machine.specs.All.{◌∙◌, rules}
 use Rattle.watch.proofs.walk.mark as f
 
 returns : f.Tie.Need-returns
@@ -10,7 +10,7 @@ returns c =
 
 pub mark_spec : {M : Type 1} → f.Statement.statement M
 mark_spec = f.Tie.close (f.Tie.spec
-    (search needs)
-    (search needs)
-    (search needs)
+    (search rules)
+    (search rules)
+    (search rules)
     returns)
