@@ -7,7 +7,7 @@
 use Rattle.machine.specs.All.{ℕ, ◌≡◌, List, reverse, server_at, BlockModel, State, Rules, accept, validate, states, InOrder, Keeps, Demand3, Proved}
 use Rattle.machine.proofs as our
 use our.{Decoding.Proper.Proper, Decoding.ProperFrom.proper-from, Runs.Bounds.bounded, Order.InOrder.in_order, Runs.RunLaws.last}
-use our.Basic.Each.{Each-map, each-pair, each-under}
+use our.Basic.Each.{each_map, each-pair, each-under}
 use our.Conservation.Conservation.{Conserved, conserved}
 use our.NobodyAble.NobodyAble.{Waited, waited, able-none}
 use our.Later.Holders.{Holding, holding, taken-from}
@@ -48,7 +48,7 @@ module _ {m : BlockModel} {tape : List (List ℕ)} (proper : Proper m tape) (bud
 
   pub keeps-all : Demand3 m tape budget room
   keeps-all =
-      Each-map (keeps m tape) all
+      each_map (keeps m tape) all
       (each-pair (λ s. Conserved m tape s × Waited m s)
       (λ s. Ordered m tape s × (Holding m tape s × (Gathered m tape s × Assembled m tape s))) all
       (each-pair (Conserved m tape) (Waited m) all (conserved m tape budget room proper) (waited proper budget room))

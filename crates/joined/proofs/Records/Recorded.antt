@@ -1,6 +1,6 @@
 -- Whoever waits, gathers, holds a facility or was interrupted has a record; so in a run that ends dry everybody made has one.
 use Rattle.machine.specs.All.{ℕ, zero, suc, ◌*◌, ◌≤◌, ◌≡◌, refl, sym, ap, ◌∙◌, subst, Bool, true, false, cond, not, ◌&&◌, ◌||◌, true≢false, List, [], ◌∷◌, ◌++◌, map, Option, none, some, arith, leb, eqb, length, take, replicate, eqb-true, eqb-false, eq-eqb, le-leb, Transaction, precedes, Event, Gatherer, Interrupted, those, any_of, flat, Server, idle_server, server_at, Code, Share, facility, storage, share_server, share_units, share_holder, Block, generate, advance, terminate, takes, frees, wait_server, wait_terms, moves, assign, priority, split, counts, assemble, preempt, give_back, BlockModel, State, Logged, set_ended, record_of, log, enters, move_to, to_rel, to_fel, to_ql, to_wel, to_wsl, ql_of, wel_of, begin_wait, must_wait, wake, Parted, wake_ql, wake_first_wel, wake_wsl, set_use, set_content, arrival, copies, gatherers_at, in_family, waits_for, to_gatherers, comes, released, of_facility, losers_to, interrupt, resume, set_waits_for, check_wels, wake_for, free_units, ends_one, delay, take_units, effect, sample_servers, sample, arrive_all, move_clock, next_events, take_first, take_ready, taking, answer, execute, turn, start_at, idle, start, run, run_from, steps, nobody_left, moving_one, Each, count, everyone, standing, is_living, terminates, Keeps, bit, free, wel_index, fresh, copy_of, interrupted_at, part_for, states, made_by, with_returning, with_serial, set_moving, set_turns, ◌-◌}
-use Rattle.machine.proofs.{Decoding.Proper.Proper, Decoding.Proper.servers, Demand3.keeps-all, Lists.Lines.each-line_up, Lists.Lines.both-part_for, Runs.Everybody.Maybe, Order.Losers.loser-loses, Basic.Bools.and_true, Basic.Bools.cond_cases, Runs.RunLaws.each-state, Runs.RunLaws.Each-last, Runs.RunLaws.last}
+use Rattle.machine.proofs.{Decoding.Proper.Proper, Decoding.Proper.servers, Demand3.keeps-all, Lists.Lines.each-line_up, Lists.Lines.both-part_for, Runs.Everybody.Maybe, Order.Losers.loser-loses, Basic.Bools.and_true, Basic.Bools.cond_cases, Runs.RunLaws.each-state, Runs.RunLaws.each_last, Runs.RunLaws.last}
 use Rattle.machine.proofs.Basic.Each.{each_append, each-flat, each_mapped, each_set, each-get_or, each_map, each-insert, each-those, each-drop, each_replace}
 use Rattle.machine.proofs.Lists.Cases.{check_wels-kept, wait_server-cases, wait_terms-cases, assemble-cases, preempt-cases, give_back-cases, ws_scheme-cases, start_of-cases}
 use Rattle.joined.proofs as our

@@ -2,9 +2,9 @@
 -- equals ended plus living, and the machine's counts are these.
 use Rattle.machine.specs.All.{ℕ, ◌+◌, ◌≤◌, ◌<◌, ◌≡◌, refl, ap, ◌∙◌, Bool, true, false, cond, ◌&&◌, List, ◌++◌, map, Option, none, some, arith, leb-true, leb-false, eqb-true, eqb-false, eq-eqb, ne_eqb, eqb, leb, length, length-append, length-map, Transaction, Interrupted, those, flat, BlockModel, State, taking, turn, start, states, placed, moving_one, places, Each, count, bit, up_to, everyone, standing, terminates, made_by, ended_by_lem, is_living, living_count, sym}
 use Rattle.machine.proofs as our
-use our.{Decoding.Proper.Proper, Runs.Kept.taking-kept, Conservation.StartLedger.booked-start, Runs.RunLaws.each-state, Basic.Each.Each-map}
+use our.{Decoding.Proper.Proper, Runs.Kept.taking-kept, Conservation.StartLedger.booked-start, Runs.RunLaws.each-state, Basic.Each.each_map}
 use our.Runs.Shape.{Shape, shape_closed, shape-turn, shape-start}
-use our.Lists.Sums.{sum_on, sum-append, sum-map, sum-test, sum_cong, sum_cong-keys, sum-length, sum-count, sum-zero, up_to-ones, up_to-none, up_to-one, Each-member}
+use our.Lists.Sums.{sum_on, sum-append, sum-map, sum-test, sum_cong, sum_cong-keys, sum-length, sum-count, sum-zero, up_to-ones, up_to-none, up_to-one, each_member}
 use our.Conservation.Balance.{listed, held, gone, Balanced, balanced-taking, balanced-turn, balanced-start}
 use our.Conservation.Ledger.{Books, booked-taking, booked-turn}
 
@@ -226,7 +226,7 @@ module _ (m : BlockModel) (tape : List (List ℕ)) where
   pub interrupted_live : (s : State) → Sound m tape s
       → Each (λ (i : Interrupted). is_living m tape s.records i.who.number ≡ true) s.interrupted
   interrupted_live s h =
-      Each-member (λ (i : Interrupted). i.who.number) _ s.interrupted
+      each_member (λ (i : Interrupted). i.who.number) _ s.interrupted
       (λ i p.
       alive (is_living m tape s.records i.who.number)
       (omega (
@@ -263,4 +263,4 @@ module _ (m : BlockModel) (tape : List (List ℕ)) where
       (λ s e c h. record { shape = h.shape; balanced = h.balanced; books = h.books }) tape (sound-start proper)
 
   pub conserved : (budget room : ℕ) → Proper m tape → Each (Conserved m tape) (states m tape budget room)
-  conserved budget room proper = Each-map sound-conserved (states m tape budget room) (sound budget room proper)
+  conserved budget room proper = each_map sound-conserved (states m tape budget room) (sound budget room proper)

@@ -4,8 +4,8 @@ use Rattle.machine.specs.Limits as Limits
 use Rattle.machine.proofs as our
 use our.Decoding.Proper.{Names, Storage, CodeServer, Units, ProperBlock, Proper}
 use our.Basic.Bools.{cond_cases}
-use our.Basic.Each.{Each-map, each-get_or}
-use our.Decoding.ParserLaws.{Refusal, Gives, Ensures, Any, then, gives, refuses, choice, weaken, repeated, asked, in_range}
+use our.Basic.Each.{each_map, each-get_or}
+use our.Decoding.ParserLaws.{Refusal, Gives, Ensures, Any, then, gives, refuses, choice, weaken, repeated, asked, in-range}
 
 -- ---- Terms and values: only their refusals matter
 
@@ -29,7 +29,7 @@ module _ (read : ℕ → ℕ → Parser ℕ) (reads : (lo hi : ℕ) → Ensures 
 module _ (s : List ℕ) where
   -- a number of the model, with its range
   ranged : (lo hi : ℕ) → Ensures (λ n. (lo ≤ n) × (n ≤ hi)) (number s lo hi)
-  ranged lo hi = in_range Limits.max_number s 3 lo hi (omega arith) (omega arith)
+  ranged lo hi = in-range Limits.max_number s 3 lo hi (omega arith) (omega arith)
 
   any-number : (lo hi : ℕ) → Ensures Any (number s lo hi)
   any-number lo hi = weaken (λ a h. tt) (ranged lo hi)
@@ -272,7 +272,7 @@ module _ (rules : Rules) (s : List ℕ) where
       (record {
         own = refl;
         block =
-            Each-map
+            each_map
             (λ b g.
             g m
             (record {
@@ -309,10 +309,10 @@ module _ (rules : Rules) (s : List ℕ) where
   sample-list : Ensures (λ l. (length l ≤ Limits.max_samples) × Each (λ x. x ≤ rules.max_time) l) (list_field s rules)
   unfolding list_field
   sample-list =
-      then (in_range rules.max_number s 8 0 Limits.max_samples (omega arith) (omega arith))
+      then (in-range rules.max_number s 8 0 Limits.max_samples (omega arith) (omega arith))
       (λ count h.
-      weaken (λ l g. (omega (arith, g.0, h.1), Each-map (λ x k. k.1) l g.1))
-      (repeated count (in_range rules.max_number s 8 0 rules.max_time (omega arith) (omega arith))))
+      weaken (λ l g. (omega (arith, g.0, h.1), each_map (λ x k. k.1) l g.1))
+      (repeated count (in-range rules.max_number s 8 0 rules.max_time (omega arith) (omega arith))))
 
   tape-of : (lists : ℕ) → Ensures (ProperTape rules lists) (tape_of rules s lists)
   unfolding tape_of

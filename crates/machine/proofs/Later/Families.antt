@@ -2,7 +2,7 @@
 -- everybody's family is the one that the records tell.
 use Rattle.machine.specs.All.{ℕ, zero, suc, ◌+◌, ◌≤◌, ◌<◌, ◌≡◌, refl, sym, ap, ◌∙◌, Bool, true, false, cond, ◌&&◌, List, [], ◌∷◌, Option, none, some, arith, lt-ltb, le-ltb, le-leb, lt-leb, ltb, leb, Transaction, newborn, Event, Interrupted, Gatherer, server_at, Code, Share, share_server, share_units, share_holder, Block, generate, advance, terminate, takes, frees, wait_server, wait_terms, moves, assign, priority, split, counts, assemble, preempt, give_back, facts, BlockModel, block_at, State, Logged, set_turns, set_ended, set_made, record_of, log, enters, move_to, go_on_lem, to_rel, to_fel, to_ql, to_wel, to_wsl, begin_wait, must_wait, wake_ql, wake_first_wel, wake_wsl, set_use, set_content, arrival, copies, to_gatherers, comes, released, losers_to, interrupted_at, interrupt, resume, set_holder, times_left, use_time, waits_for, take_units, free_units, wake_for, check_wels, ends_one, delay, effect, taking, answer, execute, ws_scheme, turn, idle, start_at, start, Each, bit, everyone, facts_at, entered, gets_time, used_by, made_by, family_by, ◌-◌, facility, with_serial, set_moving, set_serial, fresh, copy_of}
 use Rattle.machine.proofs as our
-use our.{Basic.Bools.cond_cases, Basic.Each.Each-map, Order.Taken.taking-records}
+use our.{Basic.Bools.cond_cases, Basic.Each.each_map, Order.Taken.taking-records}
 use our.Lists.Cases.{check_wels-kept, wait_server-cases, wait_terms-cases, assemble-cases, ws_scheme-cases, start_of-cases, preempt-cases, give_back-cases, takes-cases}
 use our.Conservation.Conservation.{Sound, sound-taking}
 use our.Runs.Everybody.{Maybe, Everybody, Unmoved, like, everybody-map, everybody-each, to_rel-everybody, to_fel-everybody, to_ql-everybody, to_wel-everybody, to_wsl-everybody, move_to-everybody, wake_for-everybody, wake_first_wel-everybody, wake_wsl-everybody, delay-everybody, to_gatherers-everybody, comes-everybody, released-everybody, waiter-everybody, taking-everybody, idle-everybody, loser-everybody, interrupted-everybody, interrupt-everybody, resume-everybody}
@@ -405,4 +405,4 @@ module _ (m : BlockModel) (tape : List (List ℕ)) where
 
   -- of the invariant, what demand 3 asks for
   pub kindred-families : (s : State) → Kindred s → Each (λ t. t.family ≡ family_by m tape s.records t.number) (everyone s)
-  kindred-families s h = Each-map (λ t p. p.1) (everyone s) (everybody-each _ s h)
+  kindred-families s h = each_map (λ t p. p.1) (everyone s) (everybody-each _ s h)

@@ -6,7 +6,7 @@ use Rattle.machine.proofs as our
 use our.Lists.Chosen.{those-insert, those-one, those_else, those_replaced, upto, upto-none, upto-some}
 use our.Decoding.Proper.{ProperBlock, Proper}
 use our.{Runs.RunLaws.each-state, Basic.Bools.cond_cases, Order.Taken.taking-records}
-use our.Basic.Each.{Each-map, each-passes}
+use our.Basic.Each.{each_map, each-passes}
 use our.Lists.Cases.{check_wels-kept, wait_server-cases, wait_terms-cases, assemble-cases, ws_scheme-cases, start_of-cases, preempt-cases, give_back-cases}
 use our.Runs.Shape.{Shape, gatherers-at}
 use our.Order.Steps.{Step, passes, begins, back, returns, assembles, step-effect}
@@ -468,7 +468,7 @@ module _ {m : BlockModel} {tape : List (List ℕ)} (proper : Proper m tape) wher
 
   pub assembled : (budget room : ℕ) → Each (Assembled m tape) (states m tape budget room)
   assembled budget room =
-      Each-map (λ s h. record { families = kindred-families m tape s h.gathering.kindred; gathered = h.gathering.gathers })
+      each_map (λ s h. record { families = kindred-families m tape s h.gathering.kindred; gathered = h.gathering.gathers })
       (states m tape budget room)
       (each-state m budget room Whole (λ s t h. whole-turn s h) (λ s e c h. whole-end s e h) tape
       (record { sound = sound-start m tape proper; everywhere = placed-start m tape proper; gathering = gathering-start }))

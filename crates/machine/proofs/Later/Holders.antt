@@ -6,10 +6,10 @@ use Rattle.machine.proofs as our
 use our.Decoding.Proper.{Proper, ProperShare, ProperBlock, Names, Storage, servers, share-server}
 use our.{Runs.RunLaws.each-state, Runs.Clocks.unless_yes, NobodyAble.Waiting.server_in, NobodyAble.WaitsKept.sampled-alike, Conservation.Ledger.ends-nobody, Basic.Lists.up_to-at}
 use our.Basic.Bools.{cond_cases, and-three}
-use our.Basic.Each.{Each-map, each-pair, each-insert, each-those, each_replace}
+use our.Basic.Each.{each_map, each-pair, each-insert, each-those, each_replace}
 use our.Lists.Cases.{wait_server-cases, check_wels-kept, wait_terms-cases, ws_scheme-cases, start_of-cases, assemble-cases, preempt-cases, give_back-cases}
 use our.Runs.Shape.{Shape, server-length, server-within, facility-capacity}
-use our.Lists.Sums.{count-cons, sum_on, sum-count, Each-member}
+use our.Lists.Sums.{count-cons, sum_on, sum-count, each_member}
 use our.Lists.Chosen.{those-insert, those-one, those_else, those_replaced, upto, upto-none, upto-some, none-numbered}
 use our.Order.Losers.{Loses, loser-loses}
 use our.Conservation.Conservation.{Sound, sound-taking, sound-turn, sound-start, mover-lives, interrupted_live}
@@ -686,7 +686,7 @@ module _ (m : BlockModel) (tape : List (List ℕ)) where
 
   pub holding : (budget room : ℕ) → Proper m tape → Each Holding (states m tape budget room)
   holding budget room proper =
-      Each-map (λ s h. h.1) (states m tape budget room)
+      each_map (λ s h. h.1) (states m tape budget room)
       (each-state m budget room Accounts (λ s t h. accounts-turn proper s h)
       (λ s e c h. (record { shape = h.0.shape; balanced = h.0.balanced; books = h.0.books }, h.1)) tape (accounts-start proper))
 
@@ -696,13 +696,13 @@ module _ (m : BlockModel) (tape : List (List ℕ)) where
   pub taken-from : (s : State) → Holding s → Each (TakenFrom m tape s) s.interrupted
   unfolding of_facility count
   taken-from s h =
-      Each-map
+      each_map
       (λ i (p : Facility i.facility × (Facility i.facility → (server_at s.view i.facility).preempted ≡ true)).
       record { facility = p.0; preempted = p.1 p.0 })
       s.interrupted
       (each-pair (λ (i : Interrupted). Facility i.facility)
       (λ i. Facility i.facility → (server_at s.view i.facility).preempted ≡ true) s.interrupted h.known
-      (Each-member (λ (i : Interrupted). i.facility) _ s.interrupted
+      (each_member (λ (i : Interrupted). i.facility) _ s.interrupted
       (λ i p at. unfold server_at in ((h.each i.facility at).taken (lost i at p)).0)))
     where
       number : Interrupted → ℕ

@@ -5,7 +5,7 @@ use Rattle.machine.specs.All.{ℕ, zero, suc, ◌+◌, ◌-◌, ◌≤◌, ◌<�
 use Rattle.machine.proofs as our
 use our.Decoding.Proper.{ProperBlock, Proper, Role, generating, taking as taking-role, neither, role, preempting}
 use our.{Runs.RunLaws.each-state, Basic.Bools.cond_cases, Runs.Ahead.Rising}
-use our.Basic.Each.{Each-map, each-insert, each-those, each_replace}
+use our.Basic.Each.{each_map, each-insert, each-those, each_replace}
 use our.Lists.Cases.{check_wels-kept, wait_server-cases, wait_terms-cases, ws_scheme-cases, start_of-cases, assemble-cases, preempt-cases, give_back-cases}
 use our.Lists.Sums.{sum_on, sum-append, sum-map}
 use our.Conservation.Conservation.{Sound, sound-start, sound-taking, sound-turn, stands-at-most-once}
@@ -637,7 +637,7 @@ module _ {m : BlockModel} {tape : List (List ℕ)} (proper : Proper m tape) wher
               moving = h.everybody.moving;
             };
         joined = h.joined;
-        clocks = Each-map (λ r (le : r.entry.clock ≤ s.view.clock). omega (arith, le, later.0)) s.records h.clocks;
+        clocks = each_map (λ r (le : r.entry.clock ≤ s.view.clock). omega (arith, le, later.0)) s.records h.clocks;
         ahead =
             record {
               later = each-those (λ (y : Event). x.time ≤ y.time) _ s.fel all;
@@ -734,14 +734,14 @@ module _ {m : BlockModel} {tape : List (List ℕ)} (proper : Proper m tape) wher
       record {
         joined = h.joined;
         stamps =
-            Each-map
+            each_map
             (λ t p k low high. let c = p k low high (first k) (omega arith) low in c.last ∙ ap some (c.at-start refl))
             (everyone s) (everybody-each _ s h.everybody);
       }
 
   pub joined-waits : (budget room : ℕ) → Each (Gathered m tape) (states m tape budget room)
   joined-waits budget room =
-      Each-map (λ s h. gathered s h.1) (states m tape budget room)
+      each_map (λ s h. gathered s h.1) (states m tape budget room)
       (each-state m budget room (λ s. Sound m tape s × Joins s) (λ s t h. (sound-turn m tape proper s h.0, joins-turn s h.0 h.1))
       (λ s e c h. (
         record { shape = h.0.shape; balanced = h.0.balanced; books = h.0.books },

@@ -3,7 +3,7 @@ use Rattle.machine.specs.All.{ℕ, ◌≡◌, refl, sym, ap, subst, ◌∙◌, B
 use Rattle.machine.proofs as our
 use our.Decoding.ProperFrom.{rules-from, refusal-from}
 use our.Decoding.WiderParsing.{Kept, with_rules, Follows, tape_widens, record_widens, model-follows, own-rules}
-use our.{Later.SameTurns.accepted-same, Later.LaterClock.Later-same}
+use our.{Later.SameTurns.accepted-same, Later.LaterClock.later_same}
 
 -- ---- Validation
 
@@ -84,7 +84,7 @@ same_runs {old} {new} less model tape work report {m} {t} e =
     let higher = rw (← own) at less.wider.clock in
     let holders = ap (λ (r : Rules). r.holders) own ∙ less.holders in (
       subst (λ v. Accepted new v (validate new model tape work report)) e (validated less.wider model tape work report),
-      Later-same new m higher holders t,
+      later_same new m higher holders t,
     )
 
 pub keeps-runs : {old new : Rules} → AllowsNoLess old new → KeepsRuns old new

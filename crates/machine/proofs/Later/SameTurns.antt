@@ -2,7 +2,7 @@
 -- alike; a run whose turns are the same goes through the same states, and its report is the same.
 use Rattle.machine.specs.All.{ℕ, zero, suc, ◌≡◌, refl, ap, List, [], ◌∷◌, Option, none, some, eqb-true, eqb-false, eqb, Rules, Transaction, Event, Interrupted, Server, Queue, View, Share, facility, storage, share_server, Block, generate, advance, terminate, takes, frees, wait_server, wait_terms, moves, assign, priority, split, counts, assemble, preempt, give_back, BlockModel, block_at, begins_group, State, Logged, set_turns, set_end, enters, go_on_lem, wake_ql, losers_to, interrupted_at, must_wait, begin_wait, question, fits, first_of_one, from_front, queue_remove, part_for, wake_for, check_wels, effect, take_units, preempting, gives_back, taking, answer, execute, waits_on, ws_scheme, turn, end_before_lem, idle, start, run_from, run, steps, records_at, server_numbers, queue_numbers, report_numbers, report_bytes_lem, accepted_run, ◌-◌, sym, ◌∙◌, Bool, true, false, share_units, set_moving, ql_of, units_of_lem, free_units}
 use Rattle.machine.proofs as our
-use our.Runs.RunLaws.{run_on, run-off, Taken, Before, before, Taken-of}
+use our.Runs.RunLaws.{run_on, run-off, Taken, Before, before, taken_of}
 use our.Decoding.WiderParsing.{with_rules}
 
 -- the state in which the block of a turn is executed
@@ -132,7 +132,7 @@ module _ (new : Rules) (m : BlockModel) where
             → (I (turn m s) → Same (run_from n m budget room (turn m s)) → Same (turn m s)) → Same s
         go true e k =
             let z : end_before_lem budget room s ≡ 0 = eqb-true _ _ e in
-            let t : Taken budget room s = Taken-of (before budget room s) z in
+            let t : Taken budget room s = taken_of (before budget room s) z in
             back s t i (k (step s t i) (rw (run_on m budget room n s z) at h))
         go false e k =
             let z : (end_before_lem budget room s ≡ 0 → ⊥) = eqb-false _ _ e in
@@ -149,7 +149,7 @@ module _ (new : Rules) (m : BlockModel) where
             → run_from (suc n) m' budget room s ≡ run_from (suc n) m budget room s
         go true e k =
             let z : end_before_lem budget room s ≡ 0 = eqb-true _ _ e in
-            let t : Taken budget room s = Taken-of (before budget room s) z in
+            let t : Taken budget room s = taken_of (before budget room s) z in
             let on = run_on m budget room n s z in
             let left : Same (run_from n m budget room (turn m s)) = rw on at h in
             run_on m' budget room n s z ∙ ap (run_from n m' budget room) (same s t i (same-before n (turn m s) (step s t i) left))

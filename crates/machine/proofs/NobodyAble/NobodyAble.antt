@@ -3,10 +3,10 @@
 use Rattle.machine.specs.All.{ℕ, ◌≤◌, ◌≡◌, refl, ap, ap₂, subst, Bool, false, not, true≢false, List, [], ◌∷◌, none, arith, length, those, server_at, Code, U, NU, E, NE, F, NF, status, BlockModel, wel_index, State, ql_of, wel_of, fits, waits_on, states, count, Each, able_on_ql, able_on_wel, able_on_wels, able_to_go, sym, ◌∙◌}
 use Rattle.machine.proofs as our
 use our.Decoding.Proper.{Proper, servers}
-use our.{Runs.RunLaws.each-state, Basic.Bools.cond_cases, Basic.Each.Each-map, Lists.Sums.up_to-zero}
+use our.{Runs.RunLaws.each-state, Basic.Bools.cond_cases, Basic.Each.each_map, Lists.Sums.up_to-zero}
 use our.Runs.Shape.{Shape, server-length, shape-turn, shape-start}
 use our.NobodyAble.Waiting.{server_in, QlWaits, nobody_fits, next_ready, WelWaits, code_true, nobody_waits, one_ready, WaitsOver, Waits, ready_of, Settled}
-use our.NobodyAble.WaitsKept.{waits_kept, Waits-start}
+use our.NobodyAble.WaitsKept.{waits_kept, waits_start}
 
 -- ---- Counts that are zero
 
@@ -52,7 +52,7 @@ module _ (m : BlockModel) (tape : List (List ℕ)) (s : State) where
   unfolding able_to_go able_on_wels
   able-none k first e o r =
       let w : Unready = subst (λ ready. WaitsOver m ready s.rel s.view.servers s.ql s.wel) (ap₂ ready_of o r) k.waits in
-      let wsl = none_pass (λ t. not (waits_on m s.view t)) s.wsl (Each-map (λ t h. ap not h) s.wsl (k.settled o e)) in
+      let wsl = none_pass (λ t. not (waits_on m s.view t)) s.wsl (each_map (λ t h. ap not h) s.wsl (k.settled o e)) in
       let size = server-length k.shape in
       omega (
         arith,
@@ -83,8 +83,8 @@ module _ {m : BlockModel} {tape : List (List ℕ)} (proper : Proper m tape) wher
       record { shape = shape-turn m s k.shape; waits = w.0; settled = w.1 })
       (λ s e c k.
       record { shape = k.shape; waits = k.waits; settled = λ o h. k.settled o (omega (arith, c.no_end)) })
-      tape (record { shape = shape-start m tape proper.tapes; waits = (Waits-start m tape).0; settled = (Waits-start m tape).1 })
+      tape (record { shape = shape-start m tape proper.tapes; waits = (waits_start m tape).0; settled = (waits_start m tape).1 })
 
   pub nobody-able : (budget room : ℕ)
       → Each (λ s. m.edition ≡ 1 → s.end ≤ 1 → s.moving ≡ none → s.rel ≡ [] → able_to_go m tape s ≡ 0) (states m tape budget room)
-  nobody-able budget room = Each-map (able-none m tape) (states m tape budget room) (waited budget room)
+  nobody-able budget room = each_map (able-none m tape) (states m tape budget room) (waited budget room)

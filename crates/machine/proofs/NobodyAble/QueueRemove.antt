@@ -4,7 +4,7 @@
 use Rattle.machine.specs.All.{ℕ, suc, ◌-◌, ◌≤◌, ◌≡◌, refl, sym, ap, ◌∙◌, Bool, true, false, cond, not, List, [], ◌∷◌, arith, eq-eqb, eqb-true, eqb-false, ltb-true, ltb-false, le-leb, lt-leb, eqb, ltb, leb, get_or, Transaction, those, any_of, View, server_at, free, facility, storage, share_server, share_units, Block, generate, advance, terminate, takes, frees, wait_server, wait_terms, moves, assign, priority, split, counts, assemble, preempt, give_back, facts, above_one, BlockModel, block_at, Parted, nobody, goes, stays, first_of, part_by, units_of_lem, fits, first_of_one, from_front, queue_remove, part_for, Each, others}
 use Rattle.machine.proofs as our
 use our.Decoding.Proper.{Proper, ProperBlock, Role, generating, taking, preempting, neither, role}
-use our.{Basic.Each.Each-map, Basic.Lists.none-at, NobodyAble.Waiting.AtServer}
+use our.{Basic.Each.each_map, Basic.Lists.none-at, NobodyAble.Waiting.AtServer}
 
 -- ---- Definition
 
@@ -175,4 +175,4 @@ role-units m (neither e z) k a = absurd (omega arith)
 pub some-units : {m : BlockModel} {tape : List (List ℕ)} → Proper m tape → (v : ℕ) → 1 ≤ v → (l : List Transaction) → Each (AtServer m v) l
     → Each (λ t. 1 ≤ units_of_lem m t) l
 some-units {m} proper v one l h =
-    Each-map (λ t e. role-units m (role (block_at m t.next)) (proper.block t.next) (omega arith)) l h
+    each_map (λ t e. role-units m (role (block_at m t.next)) (proper.block t.next) (omega arith)) l h

@@ -2,7 +2,7 @@
 use Rattle.machine.specs.All.{ℕ, ◌+◌, ◌-◌, ◌≤◌, ◌≡◌, refl, sym, ◌∙◌, Bool, false, not, List, [], ◌∷◌, arith, ℕ_discrete, leb, length, take, drop, get_or-set_same, get_or-set_other, set-get_or, leb-false, lt-leb, not-true, Transaction, precedes, others, nth, set_nth, Server, free, facility, storage, share_server, share_units, Block, facts, BlockModel, with_use, line_up, wake, Parted, first_of, part_by, units_of_lem, Each, ap, true, idle_server, block_at, with_returning}
 use Rattle.machine.proofs as our
 use our.Decoding.Proper.{Proper, ProperBlock, servers, Role, generating, taking, preempting, neither, role}
-use our.Basic.Each.{Each-map, each-passes}
+use our.Basic.Each.{each_map, each-passes}
 use our.NobodyAble.Waiting.{Next}
 use our.Lists.Sorted.{Sorted, some_inserted, at_set, sorted-drop, sorted-those}
 use our.Lists.Lines.{each-line_up, sorted-line_up, Both}
@@ -41,7 +41,7 @@ module _ {m : BlockModel} {t : Transaction} {rel : List Transaction} {l : List S
         ql-sorted = λ first k. at_set (Sorted precedes) ql (v - 1) k q' [] (λ e. sorted first) (w.ql-sorted first k);
         ql-stands = λ v' a.
             at_set (Each (AtServer m v')) ql (v - 1) (v' - 1) q' []
-            (λ e. Each-map (λ x h. h ∙ omega arith) q' stands) (w.ql-stands v' a);
+            (λ e. each_map (λ x h. h ∙ omega arith) q' stands) (w.ql-stands v' a);
         ql-waits = λ first v' a b. at first v' a b (ℕ_discrete v' v);
       }
     where
@@ -69,10 +69,10 @@ module _ {m : BlockModel} {t : Transaction} {rel : List Transaction} {l : List S
 
       waits : QlWaits m (t ∷ rel) (server_in l v) v q → QlWaits m rel x v q
       waits (nobody_fits h) =
-          nobody_fits (Each-map (λ u n. lt-leb (units_of_lem m u) (free x) (omega (arith, leb-false (units_of_lem m u) (free (server_in l v)) n))) q h)
+          nobody_fits (each_map (λ u n. lt-leb (units_of_lem m u) (free x) (omega (arith, leb-false (units_of_lem m u) (free (server_in l v)) n))) q h)
       waits (next_ready f h) =
           nobody_fits
-          (Each-map
+          (each_map
           (λ u e. lt-leb (units_of_lem m u) (free x)
           (omega (arith, whole f, units, facility-units proper v u one f e, facility-units proper v t one f at)))
           q (w.ql-stands v one))
@@ -97,7 +97,7 @@ module _ {m : BlockModel} {t : Transaction} {rel : List Transaction} {l : List S
       → QlWaits m rel (server_in l v) v q
   in_use-waits proper f whole used =
       nobody_fits
-      (Each-map (λ u e. lt-leb (units_of_lem m u) (free (server_in l v)) (omega (arith, whole, used, facility-units proper v u one f e))) q
+      (each_map (λ u e. lt-leb (units_of_lem m u) (free (server_in l v)) (omega (arith, whole, used, facility-units proper v u one f e))) q
       (w.ql-stands v one))
 
   -- and not getting in
@@ -117,7 +117,7 @@ module _ {m : BlockModel} {t : Transaction} {rel : List Transaction} {l : List S
       waits : QlWaits m (t ∷ rel) (server_in l v) v q → Each Full q
       waits (nobody_fits h) = h
       waits (next_ready f h) =
-          Each-map
+          each_map
           (λ u e. ap (λ n. leb n (free (server_in l v))) (facility-units proper v u one f e ∙ sym (facility-units proper v t' one f at'))
           ∙ full)
           q (w.ql-stands v one)
@@ -149,5 +149,5 @@ module _ {m : BlockModel} {t : Transaction} {rel : List Transaction} {l : List S
       → m.edition ≡ 1 → Kept x (part_by p q)
   fitting-kept x p fits first = (
     sorted-those precedes (λ u. not (p u)) q (w.ql-sorted first (v - 1)),
-    nobody_fits (Each-map (λ u e. fits u (not-true _ e)) (others p q) (each-passes (λ u. not (p u)) q)),
+    nobody_fits (each_map (λ u e. fits u (not-true _ e)) (others p q) (each-passes (λ u. not (p u)) q)),
   )

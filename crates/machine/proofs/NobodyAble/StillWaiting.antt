@@ -4,7 +4,7 @@
 use Rattle.machine.specs.All.{ℕ, zero, suc, ◌-◌, ◌≡◌, refl, sym, ap, ◌∙◌, subst, Bool, true, false, not, List, [], ◌∷◌, map, Option, none, some, not-true, not-false, leb, get_or, set, get_or-set_other, Transaction, Event, those, others, Server, Queue, idle_server, empty_queue, Term, Relation, compare, truth, Share, facility, share_server, share_units, Block, generate, advance, terminate, takes, frees, wait_server, wait_terms, moves, assign, priority, split, counts, assemble, preempt, give_back, facts, BlockModel, block_at, State, set_clock, set_view, set_turns, log, enters, move_to, to_rel, to_fel, to_ql, to_wel, to_wsl, must_wait, wake, wake_ql, wake_first_wel, wake_wsl, set_use, set_content, arrival, copies, to_gatherers, comes, released, interrupt, resume, take_units, wake_for, check_wels, ends_one, delay, effect, free_units, sample_queue, sample, arrive_all, move_clock, next_events, take_first, take_ready, taking, answer, execute, holds, waits_on, ws_scheme, turn, start, Each, Thing, the_clock, entry, queue, server, Watches, Spares, ap₂, server_at, free, with_serial, set_wsl, set_rel, set_moving, question, due}
 use Rattle.machine.proofs as our
 use our.{Basic.Bools.cond_cases, Basic.Taking.arrive_all-clock}
-use our.Basic.Each.{Each-map, each-insert, each-passes}
+use our.Basic.Each.{each_map, each-insert, each-passes}
 use our.Lists.Cases.{check_wels-kept, wait_server-cases, wait_terms-cases, assemble-cases, preempt-cases, give_back-cases, ws_scheme-cases}
 use our.NobodyAble.WaitsKept.{sampled-alike, wsl-start}
 use our.NobodyAble.Named.{Agrees, agrees-same, waits-same}
@@ -28,7 +28,7 @@ settled-turn m s = settled (execute taken.moving m taken)
     settled : (x : State) → (ws_scheme m x).end ≡ 0 → AllHold m (ws_scheme m x)
     settled x =
         ws_scheme-cases (λ y. y.end ≡ 0 → AllHold m y) m x
-        (λ e z. Each-map (λ t h. not-false _ (not-true _ h)) (others (leaves m x) x.wsl)
+        (λ e z. each_map (λ t h. not-false _ (not-true _ h)) (others (leaves m x) x.wsl)
         (each-passes (λ t. not (leaves m x t)) x.wsl)) (λ n z. absurd (n z))
 
 pub settled-start : (m : BlockModel) (tape : List (List ℕ)) → AllHold m (start m tape)
@@ -173,7 +173,7 @@ MoverSpares S m (some t) = (S (entry (t.next - 1)) → ⊥) × Spares S (block_a
 module _ (S : Thing → Type 0) (m : BlockModel) (watches : Watches S m) (s₀ : State) (hold : AllHold m s₀) where
   still_hold : (s : State) → Still S s₀ s → AllHold m s
   still_hold s (e, a) =
-      rw e (Each-map (λ t h. sym (waits-same S m watches s₀.view s.view a t) ∙ h) s₀.wsl hold)
+      rw e (each_map (λ t h. sym (waits-same S m watches s₀.view s.view a t) ∙ h) s₀.wsl hold)
 
   module _ (t : Transaction) (s : State) (still : Still S s₀ s) (entry-spared : S (entry (t.next - 1)) → ⊥) where
     entered : Still S s₀ (enters t s)

@@ -2,7 +2,7 @@
 use Rattle.machine.specs.All.{ℕ, zero, suc, ◌*◌, ◌-◌, ◌≡◌, refl, ◌∙◌, Bool, not, inl, inr, List, [], ◌∷◌, Option, none, some, arith, get_or, replicate, not-true, not-false, Transaction, Event, precedes, those, others, Server, Code, U, NU, E, NE, F, NF, status, Block, BlockModel, block_at, wel_index, State, wake, to_rel, to_fel, arrival, wake_wsl, effect, sample_servers, sample, arrive_all, move_clock, next_events, take_first, take_ready, taking, answer, execute, waits_on, ws_scheme, turn, start_at, idle, start, Each, sym, true, idle_server, set_turns, set_moving, due}
 use Rattle.machine.proofs as our
 use our.Decoding.Proper.{Proper, servers}
-use our.Basic.Each.{Each-map, each-passes}
+use our.Basic.Each.{each_map, each-passes}
 use our.{Runs.Kept.taking-kept, NobodyAble.Waiting.WaitsOver, Basic.Taking.next_events-moving}
 use our.Lists.Cases.{ws_scheme-cases, start_of-cases}
 use our.Runs.Shape.{Shape, shape_closed}
@@ -37,7 +37,7 @@ status-alike NF x y h = rw (h.0, h.1)
 
 ql-alike : {m : BlockModel} {ready : List Transaction} {x y : Server} {v : ℕ} {q : List Transaction} → Alike x y
     → QlWaits m ready x v q → QlWaits m ready y v q
-ql-alike {q = q} h (nobody_fits k) = nobody_fits (Each-map (λ t n. rw (h.0, h.1) n) q k)
+ql-alike {q = q} h (nobody_fits k) = nobody_fits (each_map (λ t n. rw (h.0, h.1) n) q k)
 ql-alike h (next_ready f k) = next_ready f k
 
 wel-alike : {m : BlockModel} {ready : List Transaction} {x y : Server} {code : Code} {i : ℕ} {q : List Transaction} → Alike x y
@@ -168,7 +168,7 @@ module _ (m : BlockModel) where
       g = grows-wake (those p s.wsl) s.rel
 
       settled : Each (λ t. waits_on m s.view t ≡ true) (others p s.wsl)
-      settled = Each-map (λ t h. not-false _ (not-true _ h)) (others p s.wsl) (each-passes (λ t. not (p t)) s.wsl)
+      settled = each_map (λ t h. not-false _ (not-true _ h)) (others p s.wsl) (each-passes (λ t. not (p t)) s.wsl)
 
 -- ---- A turn
 

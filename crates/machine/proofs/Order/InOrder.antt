@@ -1,9 +1,9 @@
 -- Claim 4 of demand 3, of every state of a run under edition 1: of two equal waits the one that began later ended only after the other.
 use Rattle.machine.specs.All.{ℕ, ◌≡◌, List, reverse, arith, BlockModel, State, turn, states, set_end, Each, InOrder}
 use Rattle.machine.proofs as our
-use our.{Decoding.Proper.Proper, Runs.RunLaws.each-state, Basic.Each.Each-map}
+use our.{Decoding.Proper.Proper, Runs.RunLaws.each-state, Basic.Each.each_map}
 use our.NobodyAble.Waiting.{Waits, Settled}
-use our.NobodyAble.WaitsKept.{waits_kept, Waits-start}
+use our.NobodyAble.WaitsKept.{waits_kept, waits_start}
 use our.Conservation.Conservation.{Sound, sound-start, sound-turn, stands-at-most-once}
 use our.Order.OrderKept.{Ordered, ordered-turn, ordered-start, ordered_end}
 
@@ -38,11 +38,11 @@ module _ {m : BlockModel} {tape : List (List ℕ)} (proper : Proper m tape) (fir
 
   pub in_order : (budget room : ℕ) → Each (λ s. InOrder m tape (reverse s.records)) (states m tape budget room)
   in_order budget room =
-      Each-map (λ s k. k.ordered.in_order) (states m tape budget room)
+      each_map (λ s k. k.ordered.in_order) (states m tape budget room)
       (each-state m budget room (Held m tape) (λ s t k. held-turn s t.no_end k) (λ s e c k. held-end s e c.no_end k) tape
       (record {
         sound = sound-start m tape proper;
-        waits = (Waits-start m tape).0;
-        settled = (Waits-start m tape).1;
+        waits = (waits_start m tape).0;
+        settled = (waits_start m tape).1;
         ordered = ordered-start m tape;
       }))

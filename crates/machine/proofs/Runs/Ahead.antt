@@ -2,7 +2,7 @@
 use Rattle.machine.specs.All.{◌≤◌, Bool, List, [], ◌∷◌, arith, Event, earlier, insert, those, replace_first, State, Each}
 use Rattle.machine.proofs as our
 use our.Basic.Bools.{cond_cases}
-use our.Basic.Each.{Each-map, each-insert, each-those, each_replace}
+use our.Basic.Each.{each_map, each-insert, each-those, each_replace}
 use our.Lists.Sorted.{earlier-time, later-time}
 
 abbrev pub Rising : List Event → Type 0
@@ -19,7 +19,7 @@ unfolding insert
 rising-insert x [] h = (tt, tt)
 rising-insert x (y ∷ l) h =
     cond_cases Rising (earlier x y) _ _
-    (λ e. let le : x.time ≤ y.time = earlier-time x y e in ((le, Each-map (λ z (n : y.time ≤ z.time). omega arith) l h.0), h))
+    (λ e. let le : x.time ≤ y.time = earlier-time x y e in ((le, each_map (λ z (n : y.time ≤ z.time). omega arith) l h.0), h))
     (λ e. (each-insert (λ (z : Event). y.time ≤ z.time) earlier x l (later-time x y e) h.0, rising-insert x l h.1))
 
 pub rising-those : (p : Event → Bool) (l : List Event) → Rising l → Rising (those p l)

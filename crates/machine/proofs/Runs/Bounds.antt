@@ -2,7 +2,7 @@
 -- limit, never uses up its steps, and ends with one of the stated ends.
 use Rattle.machine.specs.All.{ℕ, zero, suc, ◌+◌, ◌≤◌, ◌<◌, ◌≡◌, refl, Bool, true, false, ◌||◌, List, arith, eqb-true, eqb-false, ne_eqb, T, eqb, max_turns, BlockModel, State, set_use, turn, end_before_lem, idle, start, run_from, run, steps, stated_end, Bounded, ap}
 use Rattle.machine.proofs as our
-use our.Runs.RunLaws.{Taken, Before, taken, own, closing, before, Taken-of, run_on, run-off, last-state}
+use our.Runs.RunLaws.{Taken, Before, taken, own, closing, before, taken_of, run_on, run-off, last-state}
 use our.Runs.Kept.{Stop, Closed, turn-kept, start-kept}
 
 -- ---- Every turn counts one, and ends with no end or a stated one
@@ -75,7 +75,7 @@ module _ (m : BlockModel) (budget room : ℕ) where
           → T (stated_end (run_from (suc n) m budget room s).end)
       go true e h =
           let z : end_before_lem budget room s ≡ 0 = eqb-true _ _ e in
-          let t : Taken budget room s = Taken-of (before budget room s) z in
+          let t : Taken budget room s = taken_of (before budget room s) z in
           rw (run_on m budget room n s z) (h (refl, next.1) (omega (arith, next.0, t.turns-left)) (omega (arith, next.0)))
       go false e h =
           let z : (end_before_lem budget room s ≡ 0 → ⊥) = eqb-false _ _ e in

@@ -2,7 +2,7 @@
 use Rattle.machine.specs.All.{ℕ, ◌≤◌, ◌<◌, ◌%◌, ◌≡◌, ap, ◌∙◌, List, arith, lt-ltb, Rules, document01, View, signed, low32, wrap, clock_term, term, BlockModel, State, states, Each, ReadsClock, KeepsClockTerm, taking}
 use lib.IntN.{ℤ, pos}
 use Rattle.machine.proofs as our
-use our.{Decoding.Proper.Proper, Basic.Each.Each-map}
+use our.{Decoding.Proper.Proper, Basic.Each.each_map}
 use our.Decoding.ProperFrom.{proper-from, rules-from}
 use our.Runs.Clocks.{Timely, taking-timely, timely}
 
@@ -28,7 +28,7 @@ module _ {m : BlockModel} {tape : List (List ℕ)} (proper : Proper m tape) (bel
       }
 
   clock-terms : (budget room : ℕ) → Each ReadsClock (states m tape budget room)
-  clock-terms budget room = Each-map reads-clock (states m tape budget room) (timely m tape proper below budget room)
+  clock-terms budget room = each_map reads-clock (states m tape budget room) (timely m tape proper below budget room)
 
 pub keeps-clock-term : (rules : Rules) → rules.max_time ≤ rules.max_clock → rules.max_clock < 2147483648 → KeepsClockTerm rules
 keeps-clock-term rules below small model tape work report budget room m times e =

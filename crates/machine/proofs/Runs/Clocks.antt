@@ -2,7 +2,7 @@
 use Rattle.machine.specs.All.{ℕ, zero, suc, ◌+◌, ◌≤◌, ◌≡◌, refl, subst, Bool, true, false, ◌&&◌, List, [], ◌∷◌, Option, none, some, arith, leb-true, leb, eqb, get_or, get_or-drop, max_living, Transaction, Event, earlier, Interrupted, insert, nth, server_at, Code, Share, share_server, share_units, Block, generate, advance, terminate, takes, frees, wait_server, wait_terms, moves, assign, priority, split, counts, assemble, preempt, give_back, BlockModel, block_at, State, set_moving, log, enters, move_to, to_rel, to_fel, to_ql, to_wel, to_wsl, must_wait, wake_ql, wake_first_wel, wake_wsl, set_use, set_content, arrival, copies, to_gatherers, comes, released, interrupted_at, interrupt, resume, unless, living, ask_time, ask_generate, ask_advance, question, take_units, wake_for, check_wels, ends_one, delay, effect, ask_gives_back, ask_resume, arrive_all, move_clock, next_events, take_first, take_ready, taking, answer, execute, turn, idle, start_at, start, states, Each, ◌-◌, free, facility, times_left, ws_scheme}
 use Rattle.machine.proofs as our
 use our.{Decoding.Proper.Proper, Runs.RunLaws.each-state, Basic.Bools.cond_cases, Lists.Sorted.at_set}
-use our.Basic.Each.{Each-map, each-insert, each-those, each_replace}
+use our.Basic.Each.{each_map, each-insert, each-those, each_replace}
 use our.Lists.Cases.{check_wels-kept, wait_server-cases, wait_terms-cases, ws_scheme-cases, start_of-cases, assemble-cases, preempt-cases, give_back-cases}
 
 -- ---- Definition
@@ -27,7 +27,7 @@ abbrev limit : BlockModel → ℕ
 limit m = m.rules.max_clock
 
 later : (n n' : ℕ) → n ≤ n' → (l : List Event) → Each (λ (e : Event). e.who.serial ≤ n) l → Each (λ (e : Event). e.who.serial ≤ n') l
-later n n' le l h = Each-map (λ e given. omega (arith, given)) l h
+later n n' le l h = each_map (λ e given. omega (arith, given)) l h
 
 -- with one more, whose serial is fresh
 pub with-fresh : (e : Event) (s : State) → e.who.serial ≤ suc s.serial → Each (λ (e : Event). e.who.serial ≤ s.serial) s.fel

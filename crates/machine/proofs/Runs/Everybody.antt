@@ -2,7 +2,7 @@
 use Rattle.machine.specs.All.{ℕ, zero, suc, ◌+◌, ◌*◌, ◌-◌, ◌≡◌, refl, subst, Bool, true, false, List, [], ◌∷◌, ◌++◌, map, Option, none, some, length, set, take, replicate, Transaction, Event, Gatherer, Interrupted, precedes, earlier, newborn, flat, Code, Share, BlockModel, State, with_next, with_serial, with_returning, with_stamp, set_ended, set_gatherers, gatherers_at, waits_for, to_gatherers, comes, released, interrupted_at, losers_to, interrupt, of_facility, resume, begin_wait, log, enters, move_to, to_rel, to_fel, to_ql, to_wel, to_wsl, must_wait, wake, wake_ql, wake_first_wel, wake_wsl, set_use, set_content, arrival, copy_of, copies, ql_of, wel_of, wake_for, check_wels, ends_one, delay, arrive_all, move_clock, next_events, take_first, take_ready, taking, ws_scheme, idle, moving_one, Each, everyone, share_server, wel_index, set_serial, in_family, loses_to, fresh, due}
 use Rattle.machine.proofs as our
 use our.Basic.Bools.{cond_cases}
-use our.Basic.Each.{Each-set, each-get_or, each-insert, each-those, each-drop, each_replace}
+use our.Basic.Each.{each_set, each-get_or, each-insert, each-those, each-drop, each_replace}
 use our.Lists.Cases.{check_wels-kept, ws_scheme-cases}
 use our.Lists.Lines.{each-line_up, both-part_for}
 use our.Basic.Each.{each_append, each-flat, each-replicate, each_take, each_mapped}
@@ -77,7 +77,7 @@ module _ (P : Transaction → Type 0) (U : Unmoved P) where
   unfolding to_ql
   to_ql-everybody edition v t s p h =
       record {
-        ql = Each-set (Each P) s.ql (v - 1) _ h.ql (each-line_up P edition t _ p (one-ql v s h));
+        ql = each_set (Each P) s.ql (v - 1) _ h.ql (each-line_up P edition t _ p (one-ql v s h));
         wel = h.wel;
         wsl = h.wsl;
         rel = h.rel;
@@ -93,7 +93,7 @@ module _ (P : Transaction → Type 0) (U : Unmoved P) where
   to_wel-everybody edition v code t s p h =
       record {
         ql = h.ql;
-        wel = Each-set (Each P) s.wel (wel_index v code) _ h.wel (each-line_up P edition t _ p (one-wel v code s h));
+        wel = each_set (Each P) s.wel (wel_index v code) _ h.wel (each-line_up P edition t _ p (one-wel v code s h));
         wsl = h.wsl;
         rel = h.rel;
         fel = h.fel;
@@ -181,7 +181,7 @@ module _ (P : Transaction → Type 0) (U : Unmoved P) where
         wsl = h.wsl;
         rel = h.rel;
         fel = h.fel;
-        gatherers = Each-set (Each PG) s.gatherers i l h.gatherers p;
+        gatherers = each_set (Each PG) s.gatherers i l h.gatherers p;
         interrupted = h.interrupted;
         moving = h.moving;
       }
@@ -268,7 +268,7 @@ module _ (P : Transaction → Type 0) (U : Unmoved P) where
   wake_for-everybody m x s h =
       let both = both-part_for P m x s.view (ql_of s (share_server x)) (one-ql (share_server x) s h) in
       record {
-        ql = Each-set (Each P) s.ql (share_server x - 1) _ h.ql both.1;
+        ql = each_set (Each P) s.ql (share_server x - 1) _ h.ql both.1;
         wel = h.wel;
         wsl = h.wsl;
         rel = each-wake _ s.rel both.0 h.rel;
@@ -283,7 +283,7 @@ module _ (P : Transaction → Type 0) (U : Unmoved P) where
   wake_first_wel-everybody v code s h =
       record {
         ql = h.ql;
-        wel = Each-set (Each P) s.wel (wel_index v code) _ h.wel (each-drop P (wel_of s v code) (one-wel v code s h));
+        wel = each_set (Each P) s.wel (wel_index v code) _ h.wel (each-drop P (wel_of s v code) (one-wel v code s h));
         wsl = h.wsl;
         rel = each-wake _ s.rel (each_take P (wel_of s v code) (one-wel v code s h)) h.rel;
         fel = h.fel;

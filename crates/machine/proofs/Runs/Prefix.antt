@@ -3,7 +3,7 @@
 use Rattle.machine.specs.All.{cases, ℕ, zero, suc, ◌+◌, ◌-◌, ◌≤◌, ◌<◌, ◌≡◌, refl, sym, ap, ◌∙◌, ◌||◌, List, [], ◌∷◌, ◌++◌, map, reverse, append_assoc, map-append, reverse-append, length, drop, drop-append_seam, arith, zero-add, suc-add, eqb-true, eqb-false, eq-eqb, le-ltb, lt-leb, leb, ltb, eqb, max_serial, max_turns, record_room, Record, BlockModel, State, Logged, set_use, set_end, turn, nobody_left, end_before_lem, idle, start, run_from, states_from, run, states, steps, records_of, Each}
 use Rattle.machine.specs.Prefix.{BeginsWith, Prefix, StatesAreRuns}
 use Rattle.machine.proofs as our
-use our.Runs.RunLaws.{Taken, before, Taken-of, run_on, run-off, states-on, states-off, Each-map}
+use our.Runs.RunLaws.{Taken, before, taken_of, run_on, run-off, states-on, states-off, each_map}
 use our.Runs.Kept.{Closed, turn-kept, start-kept}
 
 -- ---- Turns: each counts one and writes behind what was written
@@ -132,7 +132,7 @@ module _ (m : BlockModel) where
     -- a turn that is taken is taken
     before-taken : (s : State) → end_before_lem budget room s ≡ 0 → end_before_lem budget' room' s ≡ 0
     before-taken s e =
-        let t : Taken budget room s = Taken-of (before budget room s) e in
+        let t : Taken budget room s = taken_of (before budget room s) e in
         taken_with t budget' room' (omega (arith, t.budget-left, more)) (omega (arith, t.room-left, wider))
 
     -- an end other than 3 and 4 is met again
@@ -243,7 +243,7 @@ module _ (m : BlockModel) where
   -- with a budget of its turns a run stops where it stands
   stops : (n room : ℕ) (s : State) → set_end 0 s ≡ set_end 0 (run_from (suc n) m s.turns room s)
   stops n room s =
-      let no-turn : end_before_lem s.turns room s ≡ 0 → ⊥ = λ z. absurd (omega (arith, (Taken-of (before s.turns room s) z).budget-left)) in
+      let no-turn : end_before_lem s.turns room s ≡ 0 → ⊥ = λ z. absurd (omega (arith, (taken_of (before s.turns room s) z).budget-left)) in
       rw (run-off m s.turns room n s no-turn) refl
 
   module _ (budget room : ℕ) where
@@ -258,13 +258,13 @@ module _ (m : BlockModel) where
         cases (eqb (end_before_lem budget room s) 0)
         (λ e. let z : end_before_lem budget room s ≡ 0 = eqb-true _ _ e in
         rw (states-on m budget room n s z)
-        ((omega arith, stops n room s), Each-map (passed z) (states_from n m budget room (turn m s)) (own_runs n (turn m s))))
+        ((omega arith, stops n room s), each_map (passed z) (states_from n m budget room (turn m s)) (own_runs n (turn m s))))
         (λ e. rw (states-off m budget room n s (eqb-false _ _ e)) ((omega arith, stops n room s), tt))
       where
         -- a state behind the turn: with its own budget that turn is taken too
         passed : end_before_lem budget room s ≡ 0 → (y : State) → OwnRun n (turn m s) y → OwnRun (suc n) s y
         passed z y h =
-            let t : Taken budget room s = Taken-of (before budget room s) z in
+            let t : Taken budget room s = taken_of (before budget room s) z in
             let counted : (turn m s).turns ≡ suc s.turns = (turn-follows s).0 in
             let again : end_before_lem y.turns room s ≡ 0 = taken_with t y.turns room (omega (arith, h.0, counted)) t.room-left in (
               omega (arith, h.0, counted),
@@ -273,4 +273,4 @@ module _ (m : BlockModel) where
 
     pub states_are-runs : (tape : List (List ℕ)) → StatesAreRuns m tape budget room
     unfolding states run
-    states_are-runs tape = Each-map (λ y h. h.1) (states m tape budget room) (own_runs steps (start m tape))
+    states_are-runs tape = each_map (λ y h. h.1) (states m tape budget room) (own_runs steps (start m tape))

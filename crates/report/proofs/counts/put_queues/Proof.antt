@@ -1,8 +1,8 @@
--- `put_queues` meets its contract. The invariant: the queues passed are written. The measure: the queues left.
+-- `put-queues` meets its contract. The invariant: the queues passed are written. The measure: the queues left.
 use Rattle.machine.specs.All.{◌-◌, ◌≤◌, ◌≡◌, refl, sym, ap, ◌∙◌, arith, rules, length}
 use Rattle.report_laws.specs.{Writing.written, Writing.put_all, Counts.queue_row, Counts.rows_to}
 use Rattle.report_laws.proofs.Writes.{rows_none, rows_next}
-use Rattle.report.proofs.counts.put_queues as f
+use Rattle.report.proofs.counts.put-queues as f
 
 abbrev Inv-loop : f.Tie.InvT-loop
 Inv-loop tables tally clock blocks queues report₀ at next₀ q₀ report next q = (length report ≡ length report₀)

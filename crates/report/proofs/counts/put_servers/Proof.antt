@@ -1,8 +1,8 @@
--- `put_servers` meets its contract. The invariant: the servers passed are written. The measure: the servers left.
+-- `put-servers` meets its contract. The invariant: the servers passed are written. The measure: the servers left.
 use Rattle.machine.specs.All.{◌-◌, ◌≤◌, ◌≡◌, refl, sym, ap, ◌∙◌, arith, rules, length}
 use Rattle.report_laws.specs.{Writing.written, Writing.put_all, Counts.server_row, Counts.rows_to}
 use Rattle.report_laws.proofs.Writes.{rows_none, rows_next}
-use Rattle.report.proofs.counts.put_servers as f
+use Rattle.report.proofs.counts.put-servers as f
 
 abbrev Inv-loop : f.Tie.InvT-loop
 Inv-loop tables tally clock blocks servers report₀ at next₀ v₀ report next v = (length report ≡ length report₀)
