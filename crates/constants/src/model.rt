@@ -97,19 +97,19 @@ impl Model {
     // The empty model, where decoding begins. Each limit is that of the definitions.
     pub fn empty() -> Model
         ensures nothing { (result.facilities ≡ 0) × (result.storages ≡ 0) × (result.queues ≡ 0) × (result.values ≡ 0) × (result.lists ≡ 0) × (result.counter ≡ 0) × (result.blocks ≡ 0) }
-        ensures* servers { do ⌜ ((← (⟦Model::MAX_FACILITIES⟧).entry) ≡ max_facilities) × ((← (⟦Model::MAX_STORAGES⟧).entry) ≡ max_storages) × ((← (⟦Model::MAX_CAPACITY⟧).entry) ≡ max_capacity) ⌝ }
-        ensures* things { do ⌜ ((← (⟦Model::MAX_QUEUES⟧).entry) ≡ max_queues) × ((← (⟦Model::MAX_VALUES⟧).entry) ≡ max_values) × ((← (⟦Model::MAX_LISTS⟧).entry) ≡ max_lists) ⌝ }
-        ensures* program { do ⌜ ((← (⟦Model::MAX_COUNTER⟧).entry) ≡ max_counter) × ((← (⟦Model::MAX_BLOCKS⟧).entry) ≡ max_blocks) × ((← (⟦Model::MAX_LIVING⟧).entry) ≡ max_living) ⌝ }
-        ensures* tape { do ⌜ ((← (⟦Model::MAX_SAMPLES⟧).entry) ≡ max_samples) × ((← (⟦Model::MAX_TIME⟧).entry) ≡ max_time) ⌝ }
-        ensures* transactions { do ⌜ ((← (⟦Model::MAX_PRIORITY⟧).entry) ≡ max_priority) × ((← (⟦Model::PARAMETERS⟧).entry) ≡ parameter_count) ⌝ }
-        ensures* operands { do ⌜ ((← (⟦Model::MAX_TERMINATE⟧).entry) ≡ max_terminate) × ((← (⟦Model::MAX_SPLIT⟧).entry) ≡ max_split) × ((← (⟦Model::MAX_BACK⟧).entry) ≡ max_back) ⌝ }
-        ensures* families { do ⌜ (← (⟦Model::MAX_ASSEMBLE⟧).entry) ≡ max_assemble ⌝ }
-        ensures* terms { do ⌜ ((← (⟦Model::MAX_CONSTANT⟧).entry) ≡ max_constant) × ((← (⟦Model::MAX_TERMS⟧).entry) ≡ max_terms) ⌝ }
-        ensures* sums { do ⌜ ((← (⟦Model::MAX_VALUE_NUMBERS⟧).entry) ≡ max_value_numbers) × ((← (⟦Model::MAX_BRACKETS⟧).entry) ≡ max_brackets) × ((← (⟦Model::MAX_MENTIONS⟧).entry) ≡ max_mentions) ⌝ }
-        ensures* turns { do ⌜ ((← (⟦Model::MAX_SERIAL⟧).entry) ≡ max_serial) × ((← (⟦Model::MAX_TURNS⟧).entry) ≡ max_turns) × ((← (⟦Model::RECORD_ROOM⟧).entry) ≡ record_room) ⌝ }
-        ensures* records { do ⌜ ((← (⟦Model::MAX_CLOCK⟧).entry) ≡ max_clock) × ((← (⟦Model::MAX_TRANSACTION⟧).entry) ≡ max_transaction) × ((← (⟦Model::FIVE_GROUPS⟧).entry) ≡ five_groups) ⌝ }
-        ensures* numbers { do ⌜ ((← (⟦Model::NUMBER_BYTES⟧).entry) ≡ max_number_bytes) × ((← (⟦Model::MAX_NUMBER⟧).entry) ≡ max_number) × ((← (⟦Model::REPORT_NUMBER_BYTES⟧).entry) ≡ max_report_number_bytes) × ((← (⟦Model::MAX_REPORT_NUMBER⟧).entry) ≡ max_report_number) ⌝ }
-        ensures* buffers { do ⌜ ((← (⟦Model::WORK_NUMBERS⟧).entry) ≡ work_numbers) × ((← (⟦Model::REPORT_ROOM⟧).entry) ≡ report_room) ⌝ }
+        ensures servers { (Model.MAX_FACILITIES ≡ max_facilities) × (Model.MAX_STORAGES ≡ max_storages) × (Model.MAX_CAPACITY ≡ max_capacity) }
+        ensures things { (Model.MAX_QUEUES ≡ max_queues) × (Model.MAX_VALUES ≡ max_values) × (Model.MAX_LISTS ≡ max_lists) }
+        ensures program { (Model.MAX_COUNTER ≡ max_counter) × (Model.MAX_BLOCKS ≡ max_blocks) × (Model.MAX_LIVING ≡ max_living) }
+        ensures tape { (Model.MAX_SAMPLES ≡ max_samples) × (Model.MAX_TIME ≡ max_time) }
+        ensures transactions { (Model.MAX_PRIORITY ≡ max_priority) × (Model.PARAMETERS ≡ parameter_count) }
+        ensures operands { (Model.MAX_TERMINATE ≡ max_terminate) × (Model.MAX_SPLIT ≡ max_split) × (Model.MAX_BACK ≡ max_back) }
+        ensures families { Model.MAX_ASSEMBLE ≡ max_assemble }
+        ensures terms { (Model.MAX_CONSTANT ≡ max_constant) × (Model.MAX_TERMS ≡ max_terms) }
+        ensures sums { (Model.MAX_VALUE_NUMBERS ≡ max_value_numbers) × (Model.MAX_BRACKETS ≡ max_brackets) × (Model.MAX_MENTIONS ≡ max_mentions) }
+        ensures turns { (Model.MAX_SERIAL ≡ max_serial) × (Model.MAX_TURNS ≡ max_turns) × (Model.RECORD_ROOM ≡ record_room) }
+        ensures records { (Model.MAX_CLOCK ≡ max_clock) × (Model.MAX_TRANSACTION ≡ max_transaction) × (Model.FIVE_GROUPS ≡ five_groups) }
+        ensures numbers { (Model.NUMBER_BYTES ≡ max_number_bytes) × (Model.MAX_NUMBER ≡ max_number) × (Model.REPORT_NUMBER_BYTES ≡ max_report_number_bytes) × (Model.MAX_REPORT_NUMBER ≡ max_report_number) }
+        ensures buffers { (Model.WORK_NUMBERS ≡ work_numbers) × (Model.REPORT_ROOM ≡ report_room) }
     {
         Model {
             facilities: 0,

@@ -6,7 +6,7 @@ use Rattle.layout.specs.All.{block_forms}
 use Rattle.rows_laws.specs.All.{head, rel, read, write, set_returning, remove_at, put, family_cell, line_up, transaction_at, ending, update, All, moved as movedLists}
 use Rattle.rows_laws.specs.{Cells.load, Make.free_row}
 use Rattle.rows_laws.proofs.{Buffer.RowData.same_row, Buffer.RowData.transaction-kept, Buffer.FieldWrites.write-next, Buffer.FieldWrites.write-serial, Buffer.FieldWrites.set-returning, Chains.InsertRemove.remove-holds, Chains.InsertRemove.remove-keeps, Order.SortedInsertion.map-insert, Life.Making.written, Life.Making.written_trans, Order.StayInOrder.shows_ext, Laws.Wakes, Placing.FirstThatPasses.nobody, Placing.FirstThatPasses.somebody, Life.Making.Written}
-use Rattle.rows_laws.proofs.Kinds.Families.{Other, Kin, kin_of, counts-shows, release-shows}
+use Rattle.rows_laws.proofs.ByKind.Families.{Other, Kin, kin_of, counts-shows, release-shows}
 use Rattle.state.specs.{declared.scalars.Scalars.Scalars, Bare.going_back, Bare.waiting, Stands.Listed}
 use Rattle.state.specs.All.{put_moving, put_serial, put_note, entering, beginning, bare, bare_answer, rows_of, gatherer_row, lists_in, lists_of, Listing, note_of, Done}
 use Rattle.state.proofs.ListsOf.{lists-gatherers, lists-set-gatherers, lists-moved}

@@ -2,7 +2,7 @@
 -- asks and changes.
 use Rattle.machine.specs.All.{ℕ, ◌≡◌, refl, ap, Bool, true, false, List, [], ◌∷◌, ◌++◌, map, arith, eqb, length, Transaction, Gatherer, those, replace_first, in_family, Each}
 use Rattle.rows_laws.specs.All.{read, transaction_at, All}
-use Rattle.rows_laws.proofs.Kinds.Families.{Other}
+use Rattle.rows_laws.proofs.ByKind.Families.{Other}
 use Rattle.state.specs.All.{gatherer_row}
 use mathlib.Core.Path.{sym, ◌∙◌}
 use lib.ListN.{get_or, drop}

@@ -10,7 +10,7 @@ use Rattle.rows_laws.specs.All.{fel, read, write, priority_of, time_of, set_time
 use Rattle.rows_laws.proofs.{Buffer.RowData.transaction-kept, Buffer.FieldWrites.write-serial, Buffer.FieldWrites.write-stamp, Buffer.FieldWrites.write-time, Order.StayInOrder.shows_ext, Chains.TakeFirst.Head, Heap.FutureEvents.rows_strict}
 use Rattle.rows_laws.proofs.Life.Making.{Written, written, written_trans, time-written}
 use Rattle.rows_laws.proofs.Chains.TakeFirst as Take
-use Rattle.rows_laws.proofs.Kinds.Interruption.{Loser, nobody, somebody, find_of, loses-is, taken-later, interrupt-shows, resume-shows}
+use Rattle.rows_laws.proofs.ByKind.Interruption.{Loser, nobody, somebody, find_of, loses-is, taken-later, interrupt-shows, resume-shows}
 use Rattle.rows_laws.proofs.Laws.{Wakes, Takes, fresh-given, head-shows, take-shows}
 use Rattle.state.specs.declared.scalars.Scalars.{Scalars}
 use Rattle.state.specs.All.{put_serial, update_server, interrupted_row, lists_in, lists_of, Done, Bare, entering, going_back, beginning, waiting, bare, bare_answer}

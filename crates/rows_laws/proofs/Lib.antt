@@ -7,7 +7,7 @@ pub mod Heap
 pub mod Waking
 pub mod Clock
 pub mod Life
-pub mod Kinds
+pub mod ByKind
 pub mod Steps
 pub mod KeptFirst
 pub mod Laws

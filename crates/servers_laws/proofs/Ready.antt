@@ -6,7 +6,7 @@ use Rattle.machine.proofs.{NobodyAble.QueueRemove.walk, Runs.Shape.wel-below}
 use Rattle.machine.specs.Moves as Moves
 use Rattle.machine.specs.Execute as Execute
 use Rattle.rows_laws.specs.All.{links, head, tail, rel, load, first, outranks, keep_holder, wake_first, wake_walk, wake_whole, transaction_at, Sorted}
-use Rattle.rows_laws.proofs.Kinds.Interruption.{keep-holder-wakes}
+use Rattle.rows_laws.proofs.ByKind.Interruption.{keep-holder-wakes}
 use Rattle.state.specs.declared.scalars.Scalars.{Scalars}
 use Rattle.state.specs.All.{behind, update_server, lists_of, Listing, Tallying, Counting, Done, entering}
 use Rattle.state.proofs.{ListsOf.lists-ql, StandsLaws.listing-steady, StatisticsLaws.server-tallying, StatisticsLaws.server-current}

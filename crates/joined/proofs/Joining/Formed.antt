@@ -4,7 +4,7 @@ use Rattle.machine.proofs.Decoding.Proper.{Names, ProperBlock, Proper}
 use Rattle.machine.proofs.{Lists.Sums.up_to_cong, Decoding.Groups.and_left, Decoding.Groups.and_right}
 use Rattle.joined.specs.{Part, first, second, term_in, sum_in, block_in, join_models, server_in}
 use Rattle.joined.proofs as our
-use our.Other.Strangers.{Leaves-in, back_in}
+use our.Other.Strangers.{leaves_in, back_in}
 use our.Joining.BothParts.{blocks_long, block-first, block-second, back-first, back-second, back-past, group-first}
 
 both_of : (a b : Bool) → T a → T b → T (a && b)
@@ -89,7 +89,7 @@ module _ (p : Part) (m : BlockModel) where
   placed-map left [] h = refl
   placed-map left (b ∷ l) h =
       ap₂ (λ (x y : Bool). (not x || left) && y) (generates_in b h.0)
-      (ap (λ (x : Bool). well_placed x (map (block_in p) l)) (Leaves-in p b) ∙ placed-map (facts b).leaves l h.1)
+      (ap (λ (x : Bool). well_placed x (map (block_in p) l)) (leaves_in p b) ∙ placed-map (facts b).leaves l h.1)
 
   -- ---- Groups
 

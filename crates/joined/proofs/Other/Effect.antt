@@ -8,7 +8,7 @@ use Rattle.joined.proofs as our
 use our.Lists.Members.{those-insert-other, those_replace-other, sorted_insert, sorted_replace, by-holder}
 use our.Relation.Naming.{Naming, mine}
 use our.Relation.Seen.{size, Tables, OfPart, Seen}
-use our.Other.Steps.{OtherServer, OtherQueue, OtherList, OtherRow, Beside, put-fel, put-interrupted, log-other, enters-other, to_rel-other, to_fel-other, wsl-other, ql-other, wel-other, wake_ql-other, wake_first_wel-other, set_use-other, set_content-other, use_time-other, gatherers-other, fresh-other, Made-other}
+use our.Other.Steps.{OtherServer, OtherQueue, OtherList, OtherRow, Beside, put-fel, put-interrupted, log-other, enters-other, to_rel-other, to_fel-other, wsl-other, ql-other, wel-other, wake_ql-other, wake_first_wel-other, set_use-other, set_content-other, use_time-other, gatherers-other, fresh-other, made_other}
 
 -- ---- What a block of the other part names
 
@@ -80,7 +80,7 @@ module _ (p : Part) (m : BlockModel) where
     unfolding arrival newborn
     arrival-other [] list r block o e s h = h
     arrival-other (time ∷ left) list r block o e s h =
-        to_fel-other p m T N c s' _ (Made-other p m T N c s' _ (use_time-other p m T N c s' s h list o)) _ _ e
+        to_fel-other p m T N c s' _ (made_other p m T N c s' _ (use_time-other p m T N c s' s h list o)) _ _ e
 
     delay-other : (l : List ℕ) (list : ℕ) (t : Transaction) → OtherList p m list → in_part p (size p m) (suc t.next) ≡ false
         → (s : State) → B s → B (delay l list t s)
@@ -91,7 +91,7 @@ module _ (p : Part) (m : BlockModel) where
     copies-other : (n target : ℕ) (t : Transaction) → in_part p (size p m) target ≡ false → (s : State) → B s → B (copies n target t s)
     unfolding copies
     copies-other zero target t e s h = h
-    copies-other (suc n) target t e s h = copies-other n target t e _ (to_rel-other p m T N c s' _ (Made-other p m T N c s' s h) _ e)
+    copies-other (suc n) target t e s h = copies-other n target t e _ (to_rel-other p m T N c s' _ (made_other p m T N c s' s h) _ e)
 
     begins-other : (put : Transaction → State → State) (t : Transaction) → mine? t ≡ false
         → ((u : Transaction) → mine? u ≡ false → u.next ≡ t.next → (s : State) → B s → B (put u s)) → (s : State) → B s

@@ -295,7 +295,7 @@ module _ (p : Part) (m : BlockModel) (p' : Part) (m' M : BlockModel) (F : Facing
             let c : ℕ = (facts (block_at m' (t.next - p'.to_block))).back in
             let same : (facts (block_of M t)).back ≡ c =
             ap (λ (x : Block). (facts x).back) block ∙ back_in p' (block_at m' (t.next - p'.to_block)) in
-            let lt : c < t.next - p'.to_block = I'.goes_Back _ at.names in
+            let lt : c < t.next - p'.to_block = I'.goes_back _ at.names in
             let e : t.next - p'.to_block - c + p'.to_block ≡ t.next - (facts (block_of M t)).back = omega (arith, at.there, same) in
             rw e at (in-part p' m' (t.next - p'.to_block - c) (omega arith, omega (arith, at.names.1)))
 

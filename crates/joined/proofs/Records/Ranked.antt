@@ -3,7 +3,7 @@ use Rattle.machine.specs.All.{ℕ, ◌-◌, ◌≤◌, ◌≡◌, refl, sym, ap,
 use Rattle.machine.proofs.{Basic.Each.each_map, Lists.Sums.up_to_cong}
 use Rattle.joined.specs.{Part, in_part, records_in, rank, by_rank, part_of}
 use Rattle.joined.proofs as our
-use our.Lists.Members.{reverse-map, map_same, no_true, All-same}
+use our.Lists.Members.{reverse-map, map_same, no_true, all_same}
 use our.Lists.Ranks.{rank_in, rank_less, rank_mono, rank-eqb, listed, listed-within}
 use our.Relation.Naming.{Naming}
 use our.Relation.Seen.{size, record_as, Seen}
@@ -158,7 +158,7 @@ module _ (p : Part) (m : BlockModel) (N : Naming) (s a : State) (h : Seen p m N 
       ap by_rank listing
       ∙ map_same (λ (r : Record). numbered (rank (reverse (map back ours)) r.transaction) r)
       (λ (r : Record). numbered (rank_in N.numbers r.transaction) r) (reverse (map back ours))
-      (All-same
+      (all_same
       (λ (r : Record). numbered (rank (reverse (map back ours)) r.transaction) r ≡ numbered (rank_in N.numbers r.transaction) r)
       (λ r. ap (λ (k : ℕ). numbered k r) (rank_of r.transaction)) (reverse (map back ours)))
       ∙ sym alone-records

@@ -4,7 +4,7 @@ use Rattle.machine.specs.All.{ℕ, ◌-◌, ◌≡◌, refl, Bool, true, false, 
 use Rattle.machine.proofs.{Basic.Each.each_map, Basic.Each.each-insert, Lists.Sorted.Sorted, Lists.Sorted.sorted_in, Lists.Lines.meets}
 use Rattle.joined.specs.{Part, in_part}
 use Rattle.joined.proofs as our
-use our.Lists.Members.{insert-map, reverse-map, All-same, those-insert, those-insert-other, by_precedence}
+use our.Lists.Members.{insert-map, reverse-map, all_same, those-insert, those-insert-other, by_precedence}
 use our.Lists.Ranks.{Roll, rank_in, rank-ltb, rank-eqb, listed}
 
 -- ---- Definition
@@ -93,7 +93,7 @@ module _ (p : Part) (n : ℕ) where
             ap (λ (r : List Transaction). reverse (insert meets (seen_as_lem N t) r)) (reverse-map (seen_as_lem N) l)
             ∙ ap reverse
             (insert-map (seen_as_lem N) meets meets t (reverse l)
-            (All-same (λ (u : Transaction). meets (seen_as_lem N t) (seen_as_lem N u) ≡ meets t u) (λ u. refl) (reverse l)))
+            (all_same (λ (u : Transaction). meets (seen_as_lem N t) (seen_as_lem N u) ≡ meets t u) (λ u. refl) (reverse l)))
             ∙ reverse-map (seen_as_lem N) (insert meets t (reverse l))
 
         go : (a b : Bool)

@@ -8,7 +8,7 @@ use Rattle.joined.specs.{Part}
 use Rattle.joined.proofs as our
 use our.Relation.Naming.{Naming, mine, Known}
 use our.Relation.Seen.{size, Tables, alone_as, Seen}
-use our.Relation.NewNames.{Extends, fixtures-more, lined-more, listed_more, Told-more}
+use our.Relation.NewNames.{Extends, fixtures-more, lined-more, listed_more, told_more}
 use our.Own.Inside.{Inside, waits_on-seen}
 use our.{Own.Moves.Together, Own.Makes.After, Own.Effect.still}
 use our.Other.Effect.{Away, nobody}
@@ -61,7 +61,7 @@ module _ (p : Part) (m : BlockModel) where
         fixtures = fixtures-more p m N _ _ _ x us un _ _ _ _ h.fixtures;
         lined = lined-more p m N _ _ _ x us un _ _ _ _ _ _ h.lined;
         listed = listed_more p m N _ _ _ x us un _ _ _ _ _ _ _ _ h.listed;
-        told = Told-more p m N _ _ _ x us un _ _ h.told;
+        told = told_more p m N _ _ _ x us un _ _ h.told;
       }
 
   pub rebase-pace : (N : Naming) (s a : State) → Pace N s a → Pace (rebased N s.made) s a

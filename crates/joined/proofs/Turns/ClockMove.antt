@@ -3,7 +3,7 @@ use Rattle.machine.specs.All.{ℕ, zero, suc, ◌-◌, ◌≤◌, ◌<◌, ◌�
 use Rattle.machine.proofs.{Decoding.Proper.servers, Basic.Each.each_map, Basic.Each.each-those, Basic.Lists.those-none, Lists.Sorted.Sorted, Lists.Sorted.sorted-those, Lists.Sorted.later-time}
 use Rattle.joined.specs.{Part}
 use Rattle.joined.proofs as our
-use our.Lists.Members.{strictly, All-same, those-map, those-those, those-all, those-insert-other, sorted_insert, by_precedence, map_same}
+use our.Lists.Members.{strictly, all_same, those-map, those-those, those-all, those-insert-other, sorted_insert, by_precedence, map_same}
 use our.Relation.Naming.{Naming, mine, Known, event_as}
 use our.Relation.Seen.{size, Tables, SameServer, Fixtures, Seen}
 use our.{Relation.NewNames.serial-other, Own.Moves.Together, Lists.Ranks.rank_in}
@@ -259,7 +259,7 @@ module _ (p : Part) (m : BlockModel) (T : Tables p m) where
     due-now =
         ap (those (due time)) h.listed.fel.part.same
         ∙ those-map as_event (due time) (due time) (those ours? s.fel)
-        (All-same (λ (e : Event). due time (as_event e) ≡ due time e) (due-seen N time) (those ours? s.fel))
+        (all_same (λ (e : Event). due time (as_event e) ≡ due time e) (due-seen N time) (those ours? s.fel))
         ∙ ap (map as_event) (sym (those-those ours? (due time) s.fel))
 
     known-now : Each (λ e. Known p (size p m) N e.who) (those ours? (those (due time) s.fel))
@@ -276,7 +276,7 @@ module _ (p : Part) (m : BlockModel) (T : Tables p m) where
     later-seen =
         ap (others (due time)) h.listed.fel.part.same
         ∙ those-map as_event later later (those ours? s.fel)
-        (All-same (λ (e : Event). later (as_event e) ≡ later e) (λ e. ap not (due-seen N time e)) (those ours? s.fel))
+        (all_same (λ (e : Event). later (as_event e) ≡ later e) (λ e. ap not (due-seen N time e)) (those ours? s.fel))
         ∙ ap (map as_event) (sym (those-those ours? later s.fel))
 
     -- on both sides

@@ -122,7 +122,7 @@ module _ (p : Part) (m M : BlockModel) (I : Inside p m M) where
       let done : Done p m N x x' =
       rw (block-seen p m M I N t k.known)
       (effect-own p m M I N (handed M s) (handed m a) k.together t k.known b (I.proper _ at.names) (I.plain _ at.names) on
-      (I.goes_Back _ at.names) o) in
+      (I.goes_back _ at.names) o) in
       let there : turn M s ≡ settled M x = (turned M s t e z).1 in
       let here : turn m a ≡ settled m x' = (turned m a (alone_as p m N t) k.takes z').1 in
       subst (Paced p m N (turn M s)) (sym here) (rw there (done_paced N x x' done))

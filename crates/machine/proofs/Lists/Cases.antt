@@ -46,7 +46,7 @@ module _ (Q : State → Type 0) where
       → ((ltb 0 c && ltb t.stamp s.view.clock) ≡ false → Q (go_on_lem (stamped m t s) (wake_first_wel v code (enters t s))))
       → Q (effect m (wait_server code v c) t s)
   unfolding effect take_units
-  wait_server-cases m code v c t s waits goes_Back passes = cond_cases Q _ _ _ waits (λ e. cond_cases Q _ _ _ goes_Back passes)
+  wait_server-cases m code v c t s waits goes_back passes = cond_cases Q _ _ _ waits (λ e. cond_cases Q _ _ _ goes_back passes)
 
   -- WAITIF of a comparison: it waits while the comparison holds, and goes on else
   pub wait_terms-cases : (m : BlockModel) (a : Term) (r : Relation) (b : Term) (t : Transaction) (s : State)
