@@ -11,3 +11,4 @@ pub mod Claims
 pub mod Answers
 pub mod Runs
 pub mod Item10
+pub mod Examples

@@ -17,3 +17,4 @@ pub mod JoinedRows
 pub mod Room
 pub mod Fitting
 pub mod AsAlone
+pub mod Examples

@@ -3,7 +3,6 @@ pub mod Joining
 pub mod Rows
 pub mod Whole
 pub mod AsAlone
-pub mod Examples
 unfoldable pub use Written.*
 unfoldable pub use Joining.*
 unfoldable pub use Rows.*

@@ -6,3 +6,4 @@ pub mod Turns
 pub mod Joining
 pub mod Records
 pub mod Parts
+pub mod Examples

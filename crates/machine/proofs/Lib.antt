@@ -7,3 +7,12 @@ pub mod NobodyAble
 pub mod Order
 pub mod Later
 pub mod Demand3
+pub mod YearExamples
+pub mod RuleExamples
+pub mod HolderExamples
+pub mod Examples
+pub mod JoinedExamples
+pub mod GatherExamples
+pub mod WaitExamples
+pub mod PreemptExamples
+pub mod EditionExamples

@@ -45,4 +45,3 @@ pub use Rattle.machine.specs.OnlyHolder.{asking, OwnOnly, KeepsOwnRuns}
 unfoldable pub use Rattle.machine.specs.OnlyHolder.{held_by, by_holder, free_handed, own_only}
 pub use Rattle.machine.specs.OlderModels.{counting, KeepsModels}
 unfoldable pub use Rattle.machine.specs.Bundle.{everything}
-unfoldable pub use Rattle.machine.specs.Examples.{first_model, first_tape}

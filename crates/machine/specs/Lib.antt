@@ -26,13 +26,4 @@ pub mod OlderTapes
 pub mod OnlyHolder
 pub mod OlderModels
 pub mod Bundle
-pub mod RuleExamples
-pub mod Examples
-pub mod WaitExamples
-pub mod YearExamples
-pub mod HolderExamples
-pub mod JoinedExamples
-pub mod GatherExamples
-pub mod EditionExamples
-pub mod PreemptExamples
 pub mod All

@@ -6,13 +6,13 @@ use Rattle.machine.proofs.NobodyAble.QueueRemove.{walk}
 use Rattle.rows_laws.specs.All.{list_count, place, head, wsl, rel, fel, free, load, outranks, sooner, remove_at, put, first, take_first, remove, schedule, cancel, line_up, wake_first, wake_walk, wake_all, Arrived, arrive, arrivals, free_row, loose, on_lists, transaction_at, event_at, ending, Holds, update, All, Sorted, Ordered, order_of, Shows, Loose, moved}
 use Rattle.rows_laws.proofs as our
 use our.Counting.Occurs.{same_refl, occurs-append, occurs-cons}
-use our.Order.SortedInsertion.{All-map, front, insert-sorted, insert_strict, sorted-without, sorted-drop, sorted-those}
+use our.Order.SortedInsertion.{all_map, front, insert-sorted, insert_strict, sorted-without, sorted-drop, sorted-those}
 use our.Order.RowOrders.{precedes-order, earlier-order, earlier-total}
 use our.Order.StayInOrder.{sorted-weaker, sorted-line, ordered-list, ordered-fel, ordered-moved, wake-sorted, arrivals-sorted}
 use our.{Chains.StructuralLaw.row_of, Placing.Spot.short, Buffer.RowData.SameRow, Buffer.RowData.same_row, Chains.Showing.shown-list, Counting.LooseRows.loose-more, Counting.LooseRows.loose-less, Chains.RemoveRow.rest_of, Chains.RemoveRow.remove-is}
 use our.Chains.InsertRemove.{Kept, remove-holds, remove-keeps, remove-placed}
 use our.Life.LooseRowsStay.{Steady, Around, kept-around}
-use our.Placing.Put.{put_Keeps, put-placed, put-shown}
+use our.Placing.Put.{put_keeps, put-placed, put-shown}
 use our.Placing.LineUp.{lined, line-shown, line-keeps, line-placed}
 use our.Chains.TakeFirst.{Head, head-shown, rows-first, take-shown, take-free-shown}
 use our.Heap.FutureEvents.{head-fel-shown, schedule-shown, cancel-shown}
@@ -39,7 +39,7 @@ fresh-given t n (x ∷ E) e h = (omega (arith, h.0), fresh-given t n E e h.1)
 pub fresh-apart : (w : List ℕ) (k : ℕ) (E : List Event) → Fresh (transaction_at w k) E
     → All (λ e. earlier (event_at w k) e ≡ false → earlier e (event_at w k) ≡ true) E
 unfolding event_at
-fresh-apart w k E fresh = All-map _ _ E (λ e lt. earlier-total (event_at w k) e lt) fresh
+fresh-apart w k E fresh = all_map _ _ E (λ e lt. earlier-total (event_at w k) e lt) fresh
 
 -- what putting row k leaves: the other rows, and one fewer on no list
 pub record Puts (w w' : List ℕ) (k : ℕ) (T : ℕ → List Transaction) (E : List Event) : Type 0 where
@@ -151,7 +151,7 @@ module _ (w : List ℕ) (T : ℕ → List Transaction) (E : List Event) (s : Sho
         → Puts w (put w p k) k (update p (insert precedes (transaction_at w k) (T p)) T) E
     put-shows p hp sorted =
         puts (put w p k) p (update p (insert precedes (transaction_at w k) (T p)) T) E (omega arith)
-        (put_Keeps w L h p k (omega arith) (λ e. omega arith) off) (put-placed w L h p k (omega arith) (λ e. omega arith) off)
+        (put_keeps w L h p k (omega arith) (λ e. omega arith) off) (put-placed w L h p k (omega arith) (λ e. omega arith) off)
         (shows-put p hp sorted)
 
     -- a loose row comes onto the FEL; no serial there may be its own

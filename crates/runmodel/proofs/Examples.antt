@@ -1,5 +1,6 @@
 -- The first example of document 01, and one that is refused: the text that runmodel prints, by computing.
-use Rattle.machine.specs.All.{List, [], ◌∷◌, ◌≡◌, refl, ℕ, everything, flat, first_model, first_tape}
+use Rattle.machine.specs.All.{List, [], ◌∷◌, ◌≡◌, refl, ℕ, everything, flat}
+use Rattle.machine.proofs.Examples.{first_model, first_tape}
 use Rattle.runmodel.specs.{numeral, behind, numerals, line, record_line, end_line_lem, server_lines, queue_lines, run_text, text_of, printed}
 
 abbrev first_text : List (List ℕ)

@@ -5,3 +5,4 @@ pub mod ClockMove
 pub mod Steps
 pub mod Turns
 pub mod SlowJob
+pub mod Examples

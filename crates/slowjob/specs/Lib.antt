@@ -1,3 +1,2 @@
 pub mod SlowJob
-pub mod Examples
 unfoldable pub use SlowJob.*

@@ -7,3 +7,4 @@ pub mod Tapes
 pub mod Making
 pub mod Sound
 pub mod Accepted
+pub mod Examples

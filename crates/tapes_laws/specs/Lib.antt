@@ -6,7 +6,6 @@ pub mod Tape
 pub mod Held
 pub mod Answers
 pub mod Contract
-pub mod Examples
 pub use Limits.*
 unfoldable pub use Options.*
 unfoldable pub use Source.*

@@ -3,9 +3,9 @@ use Rattle.machine.specs.All.{ℕ, zero, suc, ◌+◌, ◌≤◌, ◌<◌, ◌�
 use Rattle.rows_laws.specs.All.{list_count, number_field, slot, place, holder_cell, fel, free, load, store, read, priority_of, sooner, put, first, take_first, schedule, cancel, loses, sooner_row, loser_of, loser_from, loser, keep_holder, is_holder, loser_at, find_loser, transaction_at, event_at, occurs, Heaped, Listed, Holds, update, All, Sorted, Strict, loose, Shows}
 use Rattle.rows_laws.proofs as our
 use our.Counting.Occurs.{same_refl, same_pos, occurs-append, occurs-cons}
-use our.Order.SortedInsertion.{not-both, before-none, All-append, front}
+use our.Order.SortedInsertion.{not-both, before-none, all_append, front}
 use our.Steps.{loser-end, loser-stop, loser-next, Holder, holder-of}
-use our.{Chains.StructuralLaw.row_of, Placing.Spot.short, Placing.Spot.Front-self, Counting.Sums.sum_ext, Buffer.RowData.same_row, Life.LooseRowsStay.around_trans, Life.LooseRowsStay.around-steady, Placing.Put.put-placed, Chains.TakeFirst.rows-first, Life.Making.Written, Heap.Scheduling.sooner-order, Heap.Scheduling.schedule-placed, Heap.FutureEvents.all-at, Heap.FutureEvents.irreflexive}
+use our.{Chains.StructuralLaw.row_of, Placing.Spot.short, Placing.Spot.front_self, Counting.Sums.sum_ext, Buffer.RowData.same_row, Life.LooseRowsStay.around_trans, Life.LooseRowsStay.around-steady, Placing.Put.put-placed, Chains.TakeFirst.rows-first, Life.Making.Written, Heap.Scheduling.sooner-order, Heap.Scheduling.schedule-placed, Heap.FutureEvents.all-at, Heap.FutureEvents.irreflexive}
 use our.Buffer.HintsAndHolders.{aside-below, aside-shown, holder_aside}
 use our.Laws.{Fresh, Wakes, Takes, Puts, cancels, take-shows, put-shows, schedule-shows}
 use Rattle.rows_laws.specs.Layout.{link}
@@ -37,7 +37,7 @@ part-before : (r : ℕ → ℕ → Bool) (a b : List ℕ) (k : ℕ) → Strict r
 unfolding Sorted All
 part-before r [] b k h = tt
 part-before r (x ∷ a) b k h =
-    (not-false (r x k) (All-append (λ y. not (r x y) ≡ false) a (k ∷ b) h.0).1.0, part-before r a b k h.1)
+    (not-false (r x k) (all_append (λ y. not (r x y) ≡ false) a (k ∷ b) h.0).1.0, part-before r a b k h.1)
 
 module _ (w : List ℕ) (n p : ℕ) (l : List ℕ) (one : Listed w fel l) (strict : Strict (sooner w) l) where
   heap : Heaped w (length l)
@@ -152,7 +152,7 @@ module _ (w : List ℕ) (n p : ℕ) (l : List ℕ) (one : Listed w fel l) (stric
       go (missed q h) = nobody (all-of (λ k. loses w n p k ≡ false) l (all-rows (λ k. loses w n p k ≡ false) h)) (omega (arith, q))
       go (met r at t h) =
           let j : ℕ = loser w n p in
-          let parts = Front-self j l (omega (arith, one.once j r, same_refl (load w (place j)) fel at)) in
+          let parts = front_self j l (omega (arith, one.once j r, same_refl (load w (place j)) fel at)) in
           let a : List ℕ = front eqb j l in
           let before : All (λ x. sooner w x j ≡ true) a =
           part-before (sooner w) a parts.0 j (subst (Strict (sooner w)) parts.1 strict) in
@@ -200,7 +200,7 @@ module _ (w : List ℕ) (n p : ℕ) (l : List ℕ) (one : Listed w fel l) (stric
         go true false e f = nobody (none_but l (λ x o. o) (λ x o q. loses-below ∙ f)) (omega arith)
         go true true e f =
             let one-there : occurs k l ≡ 1 = one.once k row ∙ same_refl (load w (place k)) fel (eqb-true _ _ e) in
-            let parts = Front-self k l (omega (arith, one-there)) in
+            let parts = front_self k l (omega (arith, one-there)) in
             let a : List ℕ = front eqb k l in
             let twice : (x : ℕ) → occurs x l ≡ occurs x a + occurs x (k ∷ parts.0) =
             λ x. ap (occurs x) parts.1 ∙ occurs-append x a (k ∷ parts.0) in

@@ -3,7 +3,7 @@
 use Rattle.machine.specs.All.{ℕ, ◌<◌, ◌≡◌, ◌≢◌, List, ◌∷◌, ◌++◌, arith, lt-ltb}
 use Rattle.rows_laws.specs.All.{place, head, fel, nowhere, list_count, tails, load, insert_at, remove_row, remove_at, ending, Listed, Holds, update}
 use Rattle.rows_laws.proofs as our
-use our.Chains.StructuralLaw.{Changed, End-low, end-high}
+use our.Chains.StructuralLaw.{Changed, end_low, end-high}
 use our.Chains.CellChanges.{insert-room, insert-place, remove-room, remove-place}
 use our.Chains.ListChanges.{insert-changed, insert-listed, remove-changed, remove-listed, removed-row, apart}
 use our.Buffer.RowData.{SameData}
@@ -16,10 +16,10 @@ pub record Kept (w w' : List ℕ) (k : ℕ) : Type 0 where
 changed-kept : (w w' : List ℕ) (p k : ℕ) (a b b' : List ℕ) → p < list_count → Listed w p (a ++ b) → Changed w w' p k a b b' → Kept w w' k
 changed-kept w w' p k a b b' hp one ch =
     record {
-      rows = λ i h. ch.kept i (λ e. omega (arith, End-low w p a b one)) (λ e. omega arith) (λ e. omega arith) (λ e. omega arith);
+      rows = λ i h. ch.kept i (λ e. omega (arith, end_low w p a b one)) (λ e. omega arith) (λ e. omega arith) (λ e. omega arith);
       places =
           λ j h d.
-          ch.kept (place j) (λ e. omega (arith, End-low w p a b one)) (λ e. omega arith) (λ e. d (omega arith)) (λ e. omega arith);
+          ch.kept (place j) (λ e. omega (arith, end_low w p a b one)) (λ e. omega arith) (λ e. d (omega arith)) (λ e. omega arith);
     }
 
 module _ (w : List ℕ) (L : ℕ → List ℕ) (h : Holds w L) (p k : ℕ) (a b : List ℕ) (hp : p < list_count) (chained : p ≢ fel)
@@ -43,14 +43,14 @@ module _ (w : List ℕ) (L : ℕ → List ℕ) (h : Holds w L) (p k : ℕ) (a b 
     insert-holds =
         record {
           room =
-              insert-room w p (ending (head p) a) k h.room hp hk (End-low w p a b one) high
+              insert-room w p (ending (head p) a) k h.room hp hk (end_low w p a b one) high
               (apart w p k a b h.room hp chained hk one off);
           listed = insert-listed w p k a b h.room hp chained hk one off L h.listed;
         }
 
     pub insert-placed : load after-insert (place k) ≡ p
     insert-placed =
-        insert-place w p (ending (head p) a) k h.room hp hk (End-low w p a b one) high (apart w p k a b h.room hp chained hk one off)
+        insert-place w p (ending (head p) a) k h.room hp hk (end_low w p a b one) high (apart w p k a b h.room hp chained hk one off)
 
   -- row k, behind a, leaves
   module _ (was : L p ≡ a ++ k ∷ b) where
@@ -80,10 +80,10 @@ module _ (w : List ℕ) (L : ℕ → List ℕ) (h : Holds w L) (p k : ℕ) (a b 
     pub remove-holds : Holds after-remove (update p (a ++ b) L)
     remove-holds =
         record {
-          room = rw removes (remove-room w p (ending (head p) a) k h.room hp hk (End-low w p a (k ∷ b) r-one) r-high);
+          room = rw removes (remove-room w p (ending (head p) a) k h.room hp hk (end_low w p a (k ∷ b) r-one) r-high);
           listed = rw removes (remove-listed w p k a b h.room hp chained hk r-one L h.listed);
         }
 
     pub remove-placed : load after-remove (place k) ≡ nowhere
     remove-placed =
-        rw removes (remove-place w p (ending (head p) a) k h.room hp hk (End-low w p a (k ∷ b) r-one) r-high)
+        rw removes (remove-place w p (ending (head p) a) k h.room hp hk (end_low w p a (k ∷ b) r-one) r-high)

@@ -4,7 +4,7 @@ use Rattle.rows_laws.specs.All.{place, link, head, tail, fel, nowhere, links, li
 use Rattle.rows_laws.proofs as our
 use our.Counting.Occurs.{same_refl, same-other, occurs-append, occurs-cons}
 use our.Chains.Chain.{chain-moved, chain-after, ending-append}
-use our.Chains.StructuralLaw.{Changed, structure, row_of, at-most-once, End-low, end-high, end-not-link}
+use our.Chains.StructuralLaw.{Changed, structure, row_of, at-most-once, end_low, end-high, end-not-link}
 use our.Chains.CellChanges
 use mathlib.Core.Path.{subst}
 
@@ -18,7 +18,7 @@ module _ (w : List ℕ) (p k : ℕ) (a b : List ℕ) (room : 16384 ≤ length w)
     none = one.once k hk ∙ same-other (load w (place k)) p (λ e. omega arith)
 
     low : links ≤ cell
-    low = End-low w p a b one
+    low = end_low w p a b one
 
     high : cell < tails
     high = omega (arith, end-high w p a b one)
@@ -106,7 +106,7 @@ module _ (w : List ℕ) (p k : ℕ) (a b : List ℕ) (room : 16384 ≤ length w)
     spotted = ending (head p) a
 
     r-low : links ≤ spotted
-    r-low = End-low w p a (k ∷ b) one
+    r-low = end_low w p a (k ∷ b) one
 
     r-high : spotted < tails
     r-high = omega (arith, end-high w p a (k ∷ b) one)

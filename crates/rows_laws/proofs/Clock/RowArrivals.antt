@@ -4,7 +4,7 @@ use Rattle.rows_laws.specs.All.{place, rel, fel, list_count, load, write, set_re
 use Rattle.rows_laws.proofs as our
 use our.Order.SortedInsertion.{insert-sorted, strict-sorted, sorted-drop}
 use our.{Order.RowOrders.precedes-order, Order.RowOrders.earlier-order, Counting.Occurs.same_refl, Counting.Occurs.occurs-cons, Chains.StructuralLaw.row_of, Placing.Spot.short, Buffer.RowData.same_row, Buffer.RowData.transaction-kept, Chains.InsertRemove.Kept, Chains.Showing.shown_ext, Heap.Scheduling.cancel-keeps, Heap.Scheduling.cancel-placed, Heap.FutureEvents.first-fel, Heap.FutureEvents.cancel-shown, Buffer.RowWrites.write-shown, Buffer.RowWrites.write-loose, Buffer.FieldWrites.set-returning, Buffer.FieldWrites.write-serial, Steps.arrive-stop}
-use our.Placing.Put.{put-shown, put_Keeps, put-placed}
+use our.Placing.Put.{put-shown, put_keeps, put-placed}
 use our.Chains.TakeFirst.{First, none, some}
 use our.Life.LooseRowsStay.{Steady, steady_refl, steady_trans, around_trans, kept-around, write-around, around-steady}
 use our.Clock.MachineArrivals.{run, left, run_is, left_is}
@@ -92,7 +92,7 @@ module _ (w : List ℕ) (L : ℕ → List ℕ) (T : ℕ → List Transaction) (E
       (around_trans w w₁ (put w₃ rel k) k (kept-around w w₁ k kept₁)
       (around_trans w₁ w₂ (put w₃ rel k) k (write-around w₁ 1 k (read w₁ 1 k / 2 * 2 + 0) (omega arith) hk)
       (around_trans w₂ w₃ (put w₃ rel k) k (write-around w₂ 7 k serial (omega arith) hk)
-      (kept-around w₃ (put w₃ rel k) k (put_Keeps w₃ L₁ s₃.holds rel k (omega arith) (λ e. omega arith) loose₃))))))
+      (kept-around w₃ (put w₃ rel k) k (put_keeps w₃ L₁ s₃.holds rel k (omega arith) (λ e. omega arith) loose₃))))))
 
 -- ---- The first, or none
 

@@ -6,7 +6,7 @@ use Rattle.rows_laws.proofs as our
 use our.Order.SortedInsertion.{map-insert, append-all, last_of}
 use our.{Order.RowOrders.outranks-is, Placing.WalkSteps.last_cell-stop, Placing.WalkSteps.last_cell-next, Chains.Chain.ending-append, Chains.Showing.shown-list}
 use our.Placing.Spot.{short, ending-last, occurs-last}
-use our.Placing.Put.{put_Keeps, put-placed, put-shown}
+use our.Placing.Put.{put_keeps, put-placed, put-shown}
 use our.Chains.InsertRemove.{Kept, insert-holds, insert-keeps, insert-placed}
 use mathlib.Core.Path.{subst}
 use Rattle.rows_laws.specs.Layout.{tail}
@@ -247,7 +247,7 @@ module _ (w : List ℕ) (L : ℕ → List ℕ) (T : ℕ → List Transaction) (E
   line-keeps = go (eqb edition 1)
     where
       go : (b : Bool) → Kept w (cond b (put w p k) (insert_at w p (second_spot w p k) k)) k
-      go true = put_Keeps w L s.holds p k (omega arith) chained off
+      go true = put_keeps w L s.holds p k (omega arith) chained off
       go false =
           rw spotted.cell
           (insert-keeps w L s.holds p k spotted.before spotted.behind (omega arith) chained off.row spotted.parts off.off)

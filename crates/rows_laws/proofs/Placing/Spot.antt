@@ -7,7 +7,7 @@ use our.Counting.Occurs.{same_refl, same-other, same-le}
 use our.Counting.Sums.{sum-add, sum_same, sum-le, sum-zero}
 use our.Chains.Chain.{chain-after, ending-append}
 use our.Placing.WalkSteps.{walk-next, walk-stay}
-use our.Order.SortedInsertion.{Order, All-append, front, back, front-back, front-all, last_of, not-before}
+use our.Order.SortedInsertion.{Order, all_append, front, back, front-back, front-all, last_of, not-before}
 
 -- ---- No list is longer than 1,024
 
@@ -119,7 +119,7 @@ front-past : (before : ℕ → ℕ → Bool) → Order before → (k j : ℕ) (a
 unfolding Sorted All front
 front-past before o k j [] b h e = rw e
 front-past before o k j (y ∷ a) b h e =
-    rw (not-before before o k j y e (All-append (λ z. before z y ≡ false) a (j ∷ b) h.0).1.0)
+    rw (not-before before o k j y e (all_append (λ z. before z y ≡ false) a (j ∷ b) h.0).1.0)
     (ap (λ (m : List ℕ). y ∷ m) (front-past before o k j a b h.1 e))
 
 -- ---- The spot is the cell behind a part of the list, whatever the test and the hint; in a sorted list behind those that the row does not

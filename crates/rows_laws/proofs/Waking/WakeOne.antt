@@ -8,7 +8,7 @@ use our.Counting.Occurs.{same_refl, occurs-append, occurs-cons}
 use our.Buffer.RowData.{same_row, transaction-kept, map-kept}
 use our.Chains.InsertRemove.{Kept, remove-IsFirst, remove-holds, remove-keeps, remove-placed}
 use our.Chains.Showing.{shown-list, shown_ext, update_same, update_other}
-use our.Placing.Put.{put-shown, put_Keeps, put-placed}
+use our.Placing.Put.{put-shown, put_keeps, put-placed}
 use our.Life.LooseRowsStay.{Steady, Around, around_trans, kept-around, write-around, around-steady}
 use Prim.Native.Nat.{◌+◌, ◌*◌, ◌/◌}
 use Rattle.rows_laws.specs.Cells.{read}
@@ -100,7 +100,7 @@ module _ (w : List ℕ) (L : ℕ → List ℕ) (T : ℕ → List Transaction) (E
       rw (at-cell, lt-ltb k 1024 woken-row.0)
       (around_trans w w₁ (put w₂ rel k) k (kept-around w w₁ k kept₁)
       (around_trans w₁ w₂ (put w₂ rel k) k (write-around w₁ 1 k (read w₁ 1 k / 2 * 2 + 1) (omega arith) woken-row.0)
-      (kept-around w₂ (put w₂ rel k) k (put_Keeps w₂ L₁ s₂.holds rel k (omega arith) (λ e. omega arith) loose₂))))
+      (kept-around w₂ (put w₂ rel k) k (put_keeps w₂ L₁ s₂.holds rel k (omega arith) (λ e. omega arith) loose₂))))
 
   on-rel : load (wake_at w p cell) (place k) ≡ rel
   unfolding wake_at wake_row

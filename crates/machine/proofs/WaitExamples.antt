@@ -2,7 +2,7 @@
 use Rattle.machine.specs.Basics.{ℕ, ◌≡◌, refl, List, [], ◌∷◌, reverse, length, get_or}
 use Rattle.machine.specs.{Block.BlockModel, State.Logged, Run.run, Rules.document01, Validate.accept, Validate.reject, Validate.validate, Bundle.everything}
 use Rattle.machine.specs.Claims.{no_record_lem, wait_end, equal_waits, bit}
-use Rattle.machine.specs.Examples.{first_model, first_tape, storage_model, storage_tape, chain_model, chain_tape, freed_by_other_model, freed_by_other_tape, returners_model, returners_tape}
+use Rattle.machine.proofs.Examples.{first_model, first_tape, storage_model, storage_tape, chain_model, chain_tape, freed_by_other_model, freed_by_other_tape, returners_model, returners_tape}
 
 -- of the record at a position: its outcome, the position of the record that ends its wait, how many records there are
 wait_at : List Logged → ℕ → List ℕ

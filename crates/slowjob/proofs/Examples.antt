@@ -1,6 +1,7 @@
 -- Item 14 by computing: delays of d, of 0 and between; the paper's first example from its bytes; and another program, of which the claim
 -- does not hold. Each example gives the ends before, and those after one time was raised.
 use Rattle.machine.specs.All.{ℕ, arith, ◌≡◌, refl, ap, subst₂, List, [], ◌∷◌, get_or, in_force, facility_in_use, constant, equal, Block, generate, advance, terminate, seize, release, branch, BlockModel, Validation, accept, reject, validate, everything}
+use Rattle.machine.proofs.Examples.{}
 use Rattle.slowjob.specs.SlowJob.{jobs, raised, ends, ends_of, Delayed}
 
 -- one facility for each that the blocks name, a counter out of reach
