@@ -1,6 +1,7 @@
 -- Document 02, item 1, by computing: clocks, clock terms and numbers at their limits, under the rules of both papers.
 use Rattle.machine.specs.Basics.{ℕ, ◌≡◌, refl, List, [], ◌∷◌, map, some}
-use Rattle.machine.specs.{Rules.Rules, Rules.document01, Rules.document02, Transaction.newborn, Term.clock_term, Term.evaluate, Block.advance, Block.terminate, Block.BlockModel, State.State, Setters.set_moving, Setters.set_clock, Setters.set_view, Turn.turn, Run.idle, Validate.accept, Validate.reject, Validate.validate, Bundle.everything, Examples.first_model}
+use Rattle.machine.specs.{Rules.Rules, Rules.document01, Rules.document02, Transaction.newborn, Term.clock_term, Term.evaluate, Block.advance, Block.terminate, Block.BlockModel, State.State, Setters.set_moving, Setters.set_clock, Setters.set_view, Turn.turn, Run.idle, Validate.accept, Validate.reject, Validate.validate, Bundle.everything}
+use Rattle.machine.proofs.Examples.{first_model}
 use Rattle.machine.specs.Trace.{taken, refusal, no_more, read_record}
 use Rattle.std.specs.Prelude.{ℤ, pos, negsuc}
 

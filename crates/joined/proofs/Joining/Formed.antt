@@ -125,7 +125,7 @@ joined-append : (w : ℕ) (k l : List Block) → T (joined w k) → T (joined 0 
 unfolding joined
 joined-append w [] l h g = joined-more 0 w l (omega arith) g
 joined-append w (b ∷ k) l h g =
-    both_of (leb (facts b).back w) _ (and_left (leb (facts b).back w) _ h) (joined-append _ k l (and_right (leb (facts b).back w) _ h) g)
+    both_of (leb (facts b).back w) _ (and_left (leb (facts b).back w) _ h) (joined-append (cond (not (eqb (facts b).wel 0) && eqb (facts b).back 0) (suc w) 0) k l (and_right (leb (facts b).back w) _ h) g)
 
 -- ---- Blocks that values name
 

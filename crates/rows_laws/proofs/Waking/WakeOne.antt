@@ -6,7 +6,7 @@ use Rattle.rows_laws.proofs as our
 use our.{Order.SortedInsertion.insert-sorted, Order.RowOrders.precedes-order, Chains.StructuralLaw.row_of, Chains.StructuralLaw.at-most-once, Buffer.RowWrites.write-shown, Buffer.RowWrites.write-loose, Buffer.FieldWrites.set-returning}
 use our.Counting.Occurs.{same_refl, occurs-append, occurs-cons}
 use our.Buffer.RowData.{same_row, transaction-kept, map-kept}
-use our.Chains.InsertRemove.{Kept, remove-IsFirst, remove-holds, remove-keeps, remove-placed}
+use our.Chains.InsertRemove.{Kept, remove_first, remove-holds, remove-keeps, remove-placed}
 use our.Chains.Showing.{shown-list, shown_ext, update_same, update_other}
 use our.Placing.Put.{put-shown, put_keeps, put-placed}
 use our.Life.LooseRowsStay.{Steady, Around, around_trans, kept-around, write-around, around-steady}
@@ -68,7 +68,7 @@ module _ (w : List ℕ) (L : ℕ → List ℕ) (T : ℕ → List Transaction) (E
       ∙ ap (with_returning true) (transaction-kept w w₁ k (same_row w w₁ k woken-row.0 kept₁.rows))
 
   at-cell : load w cell ≡ k
-  at-cell = remove-IsFirst w L s.holds p k a b hl chained woken-row.0 was
+  at-cell = remove_first w L s.holds p k a b hl chained woken-row.0 was
 
   -- it comes onto REL
   abbrev pub woken : ℕ → List ℕ
