@@ -1,5 +1,8 @@
 // Numbers in bytes (document 01, "Bytes"): groups of seven bits, highest first, top bit set on all
 // bytes but the last, shortest form.
+
+#![tactic(auto)]
+
 ghost use Rattle.machine.specs.All.{◌≡◌, cond, ℕ, ◌+◌, ◌≤◌, ◌<◌, leb, length, drop, sets, five_groups, max_number_bytes, max_report_number_bytes, max_report_number, groups, within, read_number, number_bytes, field_up_to};
 ghost use Rattle.codec.specs.Answers.{number_of, read_as, cursor_at, parsed_of};
 ghost use Rattle.codec.specs.Writing.{written, put};
