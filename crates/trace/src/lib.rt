@@ -1,5 +1,8 @@
 // Trace records (document 01, "Bytes" and "Questions at the door"): the reader on bytes and a
 // position, the writer into the unused rest of the trace buffer, and the counter of low bytes.
+
+#![tactic(auto)]
+
 mod words;
 
 ghost use Rattle.machine.specs.All.{◌≡◌, true, ℕ, ◌+◌, ◌≤◌, ◌<◌, leb, length, sets, in_force, count_low, record_bytes, trace_field, read_record, in_ranges, write_record};
