@@ -15,27 +15,27 @@ pub returns-in-Refused-trace_field : goal.returns-in-Refused-trace_field
 returns-in-Refused-trace_field c =
     transaction-refused _ _ c.if-s-at.false _ _
     (value-parsed 0 0 _ (c.trace_field.ensures.by_index 0 0) c.in-Value.is) _
-    (refusal-parsed 0 0 _ (c.trace_field-in-Value.ensures.by_index 0 0) c.in-Value.is)
+    (refusal-parsed 0 0 _ (c.trace_field-in-Value.ensures.by_index 0 0) c.in-Refused-trace_field.is)
 
 pub returns-in-Refused-trace_field-2 : goal.returns-in-Refused-trace_field-2
 returns-in-Refused-trace_field-2 c =
     block_refused _ _ c.if-s-at.false _ _
     (value-parsed 0 0 _ (c.trace_field.ensures.by_index 0 0) c.in-Value.is) _ _
-    (value-parsed 0 0 _ (c.trace_field-in-Value.ensures.by_index 0 0) c.in-Value.is) _
-    (refusal-parsed 0 0 _ (c.trace_field-in-Value-trace_field.ensures.by_index 0 0) c.in-Value.is)
+    (value-parsed 0 0 _ (c.trace_field-in-Value.ensures.by_index 0 0) c.in-Value-trace_field.is) _
+    (refusal-parsed 0 0 _ (c.trace_field-in-Value-trace_field.ensures.by_index 0 0) c.in-Refused-trace_field-2.is)
 
 pub returns-in-Refused-trace_field-3 : goal.returns-in-Refused-trace_field-3
 returns-in-Refused-trace_field-3 c =
     outcome-refused _ _ c.if-s-at.false _ _
     (value-parsed 0 0 _ (c.trace_field.ensures.by_index 0 0) c.in-Value.is) _ _
-    (value-parsed 0 0 _ (c.trace_field-in-Value.ensures.by_index 0 0) c.in-Value.is) _ _
-    (value-parsed 0 0 _ (c.trace_field-in-Value-trace_field.ensures.by_index 0 0) c.in-Value.is) _
-    (refusal-parsed 0 0 _ (c.trace_field-in-Value-trace_field-2.ensures.by_index 0 0) c.in-Value.is)
+    (value-parsed 0 0 _ (c.trace_field-in-Value.ensures.by_index 0 0) c.in-Value-trace_field.is) _ _
+    (value-parsed 0 0 _ (c.trace_field-in-Value-trace_field.ensures.by_index 0 0) c.in-Value-trace_field-2.is) _
+    (refusal-parsed 0 0 _ (c.trace_field-in-Value-trace_field-2.ensures.by_index 0 0) c.in-Refused-trace_field-3.is)
 
 pub returns-in-Value-trace_field-3 : goal.returns-in-Value-trace_field-3
 returns-in-Value-trace_field-3 c =
     record-taken _ _ c.if-s-at.false _ _
     (value-parsed 0 0 _ (c.trace_field.ensures.by_index 0 0) c.in-Value.is) _ _
-    (value-parsed 0 0 _ (c.trace_field-in-Value.ensures.by_index 0 0) c.in-Value.is) _ _
-    (value-parsed 0 0 _ (c.trace_field-in-Value-trace_field.ensures.by_index 0 0) c.in-Value.is) _ _
-    (value-parsed 0 0 _ (c.trace_field-in-Value-trace_field-2.ensures.by_index 0 0) c.in-Value.is)
+    (value-parsed 0 0 _ (c.trace_field-in-Value.ensures.by_index 0 0) c.in-Value-trace_field.is) _ _
+    (value-parsed 0 0 _ (c.trace_field-in-Value-trace_field.ensures.by_index 0 0) c.in-Value-trace_field-2.is) _ _
+    (value-parsed 0 0 _ (c.trace_field-in-Value-trace_field-2.ensures.by_index 0 0) c.in-Value-trace_field-3.is)
