@@ -1,5 +1,5 @@
 -- `trace::put_record` meets its contract: four numbers put one after the other are the record stored at once.
-use Rattle.machine.specs.All.{arith, ◌++◌, length-append, rules, number_bytes, record_bytes}
+use Rattle.machine.specs.All.{arith, ◌++◌, length-append, number_bytes, record_bytes}
 use Rattle.trace.specs.{entry}
 use Rattle.trace.proofs.Writer.{record_bytes-length, small, stored-behind}
 use Rattle.trace.proofs.put_record.Goals as goal

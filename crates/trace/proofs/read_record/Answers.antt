@@ -1,7 +1,6 @@
 -- `trace::read_record` meets its contract: past the end, or the answers of the four fields in their order.
 use Rattle.codec.proofs.Fields.{value-parsed, refusal-parsed}
 use Rattle.trace.proofs.Reader.{past_end, clock-refused, transaction-refused, block_refused, outcome-refused, record-taken}
-use Rattle.machine.specs.All.{rules}
 use Rattle.trace.proofs.read_record.Goals as goal
 
 pub returns-then-s-at : goal.returns-then-s-at

@@ -1,5 +1,5 @@
 -- `trace::write_one` meets its contract: out of range, no room, or the record stored at the front of the rest.
-use Rattle.machine.specs.All.{◌≤◌, sym, ◌∙◌, not-true, not-false, arith, length, rules, record_bytes}
+use Rattle.machine.specs.All.{◌≤◌, sym, ◌∙◌, arith, length, record_bytes}
 use Rattle.trace.specs.{entry}
 use Rattle.trace.proofs.Writer.{refused-range, refused-room, written_record, after-refused, after-written, front-written, refused-bytes, bytes_count}
 use Rattle.trace.proofs.write_one.Goals as goal

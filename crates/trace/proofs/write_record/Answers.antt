@@ -1,5 +1,5 @@
 -- `trace::write_record` meets its contract: out of range, no room, or the record stored at the front of the rest.
-use Rattle.machine.specs.All.{sym, ◌∙◌, not-true, not-false, leb-true, leb-false, rules}
+use Rattle.machine.specs.All.{sym, ◌∙◌, leb-true, leb-false}
 use Rattle.trace.proofs.Writer.{refused-range, refused-room, written_record, after-refused, after-written, front-written, refused-bytes, bytes_count}
 use Rattle.trace.proofs.write_record.Goals as goal
 
