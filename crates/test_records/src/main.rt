@@ -152,10 +152,8 @@ fn take(trace: &[u8], at: usize, i: u64) -> usize
 
 fn write_all(trace: &mut [u8]) -> usize {
     let mut used = 0;
-    let mut i = 0;
-    while i < RECORDS {
+    for i in 0..RECORDS {
         used = put(trace, used, i);
-        i += 1;
     }
     used
 }
@@ -163,13 +161,11 @@ fn write_all(trace: &mut [u8]) -> usize {
 // The position after the thousand records, if each reads back as it was written; else 0.
 fn read_all(trace: &[u8]) -> usize {
     let mut at = 0;
-    let mut i = 0;
-    while i < RECORDS {
+    for i in 0..RECORDS {
         at = take(trace, at, i);
         if at == 0 {
             return 0;
         }
-        i += 1;
     }
     at
 }
