@@ -1,5 +1,5 @@
 -- `load` meets its contract: past the end both are 0.
-use Rattle.machine.specs.All.{sym, get_or-eq_default, rules}
+use Rattle.machine.specs.All.{sym, get_or-eq_default}
 use Rattle.rows.proofs.cells.load.Goals as goal
 
 pub returns : goal.returns

@@ -1,5 +1,5 @@
 -- `set` meets its contract: by its bound.
-use Rattle.machine.specs.All.{lt-ltb, arith, rules}
+use Rattle.machine.specs.All.{lt-ltb, arith}
 use Rattle.rows_laws.specs.All.{store}
 use Rattle.rows.proofs.cells.set.Goals as goal
 

@@ -1,5 +1,5 @@
 -- `set_returning` meets its contract: a mark that stands stays; else what is written is made of what was read.
-use Rattle.machine.specs.All.{sym, ap, ◌∙◌, ◌%◌, rules}
+use Rattle.machine.specs.All.{sym, ap, ◌∙◌, ◌%◌}
 use Rattle.rows_laws.proofs.Buffer.Store.{returning_kept}
 use Rattle.rows.proofs.cells.set_returning.Goals as goal
 

@@ -1,5 +1,4 @@
 -- `set_time` meets its contract: the two writes, one after the other.
-use Rattle.machine.specs.All.{rules}
 use Rattle.rows_laws.specs.All.{set_time}
 use Rattle.rows.proofs.cells.set_time.Goals as goal
 

@@ -1,5 +1,5 @@
 -- `store` meets its contract: by its bound.
-use Rattle.machine.specs.All.{lt-ltb, le-ltb, rules}
+use Rattle.machine.specs.All.{lt-ltb, le-ltb}
 use Rattle.rows_laws.specs.All.{store}
 use Rattle.rows.proofs.cells.store.Goals as goal
 

@@ -1,5 +1,4 @@
 -- `time` meets its contract: the two fields that were read.
-use Rattle.machine.specs.All.{rules}
 use Rattle.rows_laws.specs.All.{time_of}
 use Rattle.rows.proofs.cells.time.Goals as goal
 

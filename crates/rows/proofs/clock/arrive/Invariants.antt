@@ -1,7 +1,6 @@
 -- `arrive` meets its contract. The invariant: the rest of the arrivals from here are all of them. The measure: the steps left.
-use Rattle.machine.specs.All.{◌+◌, ◌-◌, ◌≤◌, ◌≡◌, refl, sym, ◌∙◌, arith, not-true, not-false, length}
+use Rattle.machine.specs.All.{◌+◌, ◌-◌, ◌≤◌, ◌≡◌, length}
 use Rattle.rows_laws.specs.All.{arrive}
-use Rattle.rows_laws.proofs.Steps.{arrive-end, arrive-stop, arrive-next}
 use Rattle.rows.proofs.clock.arrive.Given as goal
 
 abbrev pub invariant-loop-i : goal.invariant-loop-i

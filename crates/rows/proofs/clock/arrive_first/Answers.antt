@@ -1,5 +1,5 @@
 -- `arrive_first` meets its contract, by cases on whether the FEL has a first.
-use Rattle.machine.specs.All.{lt-ltb, le-ltb, rules}
+use Rattle.machine.specs.All.{lt-ltb, le-ltb}
 use Rattle.rows_laws.specs.All.{arrive_first}
 use Rattle.rows.proofs.clock.arrive_first.Goals as goal
 

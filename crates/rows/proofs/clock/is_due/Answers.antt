@@ -1,5 +1,5 @@
 -- `is_due` meets its contract, by cases on whether the FEL has a first.
-use Rattle.machine.specs.All.{lt-ltb, le-ltb, rules}
+use Rattle.machine.specs.All.{lt-ltb, le-ltb}
 use Rattle.rows_laws.specs.All.{is_due}
 use Rattle.rows.proofs.clock.is_due.Goals as goal
 

@@ -1,5 +1,4 @@
 -- `at_least` meets its contract: two priorities.
-use Rattle.machine.specs.All.{rules}
 use Rattle.rows.proofs.lines.at_least.Goals as goal
 
 pub returns : goal.returns

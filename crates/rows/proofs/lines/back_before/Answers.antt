@@ -1,5 +1,5 @@
 -- `back_before` meets its contract, by cases on the last row.
-use Rattle.machine.specs.All.{sym, ◌∙◌, rules}
+use Rattle.machine.specs.All.{sym, ◌∙◌}
 use Rattle.rows_laws.specs.All.{back_before}
 use Rattle.rows.proofs.lines.back_before.Goals as goal
 

@@ -1,6 +1,5 @@
 -- `back_spot` meets its contract: the last cell, and from it the spot.
 use Rattle.rows_laws.specs.All.{back_spot}
-use Rattle.machine.specs.All.{rules}
 use Rattle.rows.proofs.lines.back_spot.Goals as goal
 
 pub returns : goal.returns

@@ -1,5 +1,5 @@
 -- `found_at` meets its contract, by cases on the row's priority.
-use Rattle.machine.specs.All.{sym, ◌∙◌, rules}
+use Rattle.machine.specs.All.{sym, ◌∙◌}
 use Rattle.rows_laws.specs.All.{found_at}
 use Rattle.rows.proofs.lines.found_at.Goals as goal
 

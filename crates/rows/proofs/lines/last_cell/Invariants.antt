@@ -1,7 +1,6 @@
 -- `last_cell` meets its contract. The invariant: the rest of the walk from here is the whole walk. The measure: the steps left.
-use Rattle.machine.specs.All.{◌-◌, ◌≤◌, ◌≡◌, refl, sym, ◌∙◌, arith}
+use Rattle.machine.specs.All.{◌-◌, ◌≤◌, ◌≡◌}
 use Rattle.rows_laws.specs.All.{last_cell}
-use Rattle.rows_laws.proofs.Placing.WalkSteps.{last_cell-end, last_cell-stop, last_cell-next}
 use Rattle.rows.proofs.lines.last_cell.Given as goal
 
 abbrev pub invariant-loop-i : goal.invariant-loop-i

@@ -1,5 +1,5 @@
 -- `last_meets` meets its contract, by cases on the cell and its row.
-use Rattle.machine.specs.All.{lt-ltb, le-ltb, rules}
+use Rattle.machine.specs.All.{lt-ltb, le-ltb}
 use Rattle.rows_laws.specs.All.{links, last_meets}
 use Rattle.rows.proofs.lines.last_meets.Goals as goal
 

@@ -1,5 +1,5 @@
 -- `line_up` meets its contract, by the edition.
-use Rattle.machine.specs.All.{eq-eqb, ne_eqb, rules}
+use Rattle.machine.specs.All.{eq-eqb, ne_eqb}
 use Rattle.rows_laws.specs.All.{line_up}
 use Rattle.rows.proofs.lines.line_up.Goals as goal
 

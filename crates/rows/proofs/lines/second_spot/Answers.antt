@@ -1,5 +1,5 @@
 -- `second_spot` meets its contract, by cases on the returning mark.
-use Rattle.machine.specs.All.{eq-eqb, ne_eqb, rules}
+use Rattle.machine.specs.All.{eq-eqb, ne_eqb}
 use Rattle.rows_laws.specs.All.{second_spot}
 use Rattle.rows.proofs.lines.second_spot.Goals as goal
 

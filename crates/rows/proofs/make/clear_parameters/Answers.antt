@@ -1,6 +1,5 @@
 -- `clear_parameters` meets its contract: the writes in order.
 use Rattle.rows_laws.specs.All.{clear_parameters}
-use Rattle.machine.specs.All.{rules}
 use Rattle.rows.proofs.make.clear_parameters.Goals as goal
 
 pub returns : goal.returns

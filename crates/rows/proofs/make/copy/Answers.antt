@@ -1,6 +1,5 @@
 -- `copy` meets its contract: the description, then the parameters.
 use Rattle.rows_laws.specs.All.{copy_at}
-use Rattle.machine.specs.All.{rules}
 use Rattle.rows.proofs.make.copy.Goals as goal
 
 pub returns : goal.returns

@@ -1,6 +1,5 @@
 -- `copy_parameters` meets its contract: the writes in order, of what was read.
 use Rattle.rows_laws.specs.All.{copy_parameters}
-use Rattle.machine.specs.All.{rules}
 use Rattle.rows.proofs.make.copy_parameters.Goals as goal
 
 pub returns : goal.returns

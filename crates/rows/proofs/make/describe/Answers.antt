@@ -1,6 +1,5 @@
 -- `describe` meets its contract: the writes in order.
 use Rattle.rows_laws.specs.All.{describe}
-use Rattle.machine.specs.All.{rules}
 use Rattle.rows.proofs.make.describe.Goals as goal
 
 pub returns : goal.returns

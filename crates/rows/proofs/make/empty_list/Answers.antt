@@ -1,6 +1,5 @@
 -- `empty_list` meets its contract: the stores in order.
 use Rattle.rows_laws.specs.All.{empty_list}
-use Rattle.machine.specs.All.{rules}
 use Rattle.rows.proofs.make.empty_list.Goals as goal
 
 pub returns : goal.returns

@@ -1,6 +1,6 @@
 -- `empty_lists` meets its contract. The invariant: the first lists are done. The measure: those left.
-use Rattle.machine.specs.All.{ℕ, ◌-◌, ◌≤◌, ◌≡◌, refl, ap, ◌∙◌, List, arith, add-one, length}
-use Rattle.rows_laws.specs.All.{list_count, empty_lists, empty_list}
+use Rattle.machine.specs.All.{◌-◌, ◌≤◌, ◌≡◌, length}
+use Rattle.rows_laws.specs.All.{list_count, empty_lists}
 use Rattle.rows.proofs.make.empty_lists.Given as goal
 
 abbrev pub invariant-loop-p : goal.invariant-loop-p

@@ -1,5 +1,5 @@
 -- `free_rows` meets its contract. The invariant: the first rows are done. The measure: those left.
-use Rattle.machine.specs.All.{ℕ, ◌-◌, ◌≤◌, ◌≡◌, refl, ap, ◌∙◌, arith, add-one, length}
+use Rattle.machine.specs.All.{ℕ, refl, ap, ◌∙◌, arith, add-one}
 use Rattle.rows_laws.specs.All.{free_rows}
 use Rattle.rows.proofs.make.free_rows.Goals as goal
 
@@ -9,10 +9,10 @@ loop-k-init c = (refl, (omega arith, refl))
 
 pub loop-k-preserved : goal.loop-k-preserved
 unfolding free_rows
-loop-k-preserved c =
-    (rw (add-one c.loop-k.k, ← c.loop-k.invariant.0) c.free_row.ensures,
-      (omega arith, omega arith),
-    )
+loop-k-preserved c = (
+  rw (add-one c.loop-k.k, ← c.loop-k.invariant.0) c.free_row.ensures,
+  (omega arith, omega arith),
+)
 
 pub returns : goal.returns
 returns c =

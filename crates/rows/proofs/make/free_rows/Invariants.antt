@@ -1,5 +1,5 @@
 -- `free_rows` meets its contract. The invariant: the first rows are done. The measure: those left.
-use Rattle.machine.specs.All.{ℕ, ◌-◌, ◌≤◌, ◌≡◌, refl, ap, ◌∙◌, arith, add-one, length}
+use Rattle.machine.specs.All.{◌-◌, ◌≤◌, ◌≡◌, length}
 use Rattle.rows_laws.specs.All.{free_rows}
 use Rattle.rows.proofs.make.free_rows.Given as goal
 

@@ -1,6 +1,5 @@
 -- `initialise` meets its contract: the loops in order, the heap emptied between.
 use Rattle.rows_laws.specs.All.{initial}
-use Rattle.machine.specs.All.{rules}
 use Rattle.rows.proofs.make.initialise.Goals as goal
 
 pub returns : goal.returns

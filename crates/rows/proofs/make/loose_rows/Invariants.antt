@@ -1,6 +1,6 @@
 -- `loose_rows` meets its contract. The invariant: the first rows are done. The measure: those left.
-use Rattle.machine.specs.All.{ℕ, ◌-◌, ◌≤◌, ◌≡◌, refl, ap, ◌∙◌, List, arith, add-one, length}
-use Rattle.rows_laws.specs.All.{loose_rows, place, nowhere, store}
+use Rattle.machine.specs.All.{◌-◌, ◌≤◌, ◌≡◌, length}
+use Rattle.rows_laws.specs.All.{loose_rows}
 use Rattle.rows.proofs.make.loose_rows.Given as goal
 
 abbrev pub invariant-loop-k : goal.invariant-loop-k

@@ -1,6 +1,5 @@
 -- `newborn` meets its contract: the description, then the parameters.
 use Rattle.rows_laws.specs.All.{newborn_at}
-use Rattle.machine.specs.All.{rules}
 use Rattle.rows.proofs.make.newborn.Goals as goal
 
 pub returns : goal.returns

@@ -1,5 +1,5 @@
 -- `outranks` meets its contract, by cases on the priorities.
-use Rattle.machine.specs.All.{arith, lt-ltb, le-ltb, eq-eqb, ne_eqb, rules}
+use Rattle.machine.specs.All.{arith, lt-ltb, le-ltb, eq-eqb, ne_eqb}
 use Rattle.rows_laws.specs.All.{outranks}
 use Rattle.rows.proofs.order.outranks.Goals as goal
 

@@ -1,5 +1,5 @@
 -- `after` meets its contract, by cases on the row of the cell.
-use Rattle.machine.specs.All.{lt-ltb, le-ltb, rules}
+use Rattle.machine.specs.All.{lt-ltb, le-ltb}
 use Rattle.rows_laws.specs.All.{after}
 use Rattle.rows.proofs.wake.after.Goals as goal
 

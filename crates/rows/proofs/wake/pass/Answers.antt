@@ -1,6 +1,5 @@
 -- `pass` meets its contract, by cases on whether the row moves.
 use Rattle.rows_laws.specs.All.{pass_rows, pass_cell}
-use Rattle.machine.specs.All.{rules}
 use Rattle.rows.proofs.wake.pass.Goals as goal
 
 pub returns-then-moves : goal.returns-then-moves
@@ -14,6 +13,6 @@ returns-then-moves c =
 pub returns : goal.returns
 unfolding pass_rows pass_cell
 returns c = record {
-      cell = rw c.if-moves.false c.after.ensures;
-      rows = rw c.if-moves.false;
-    }
+  cell = rw c.if-moves.false c.after.ensures;
+  rows = rw c.if-moves.false;
+}

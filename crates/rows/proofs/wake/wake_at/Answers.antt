@@ -1,5 +1,5 @@
 -- `wake_at` meets its contract, by cases on the row of the cell.
-use Rattle.machine.specs.All.{lt-ltb, le-ltb, rules}
+use Rattle.machine.specs.All.{lt-ltb, le-ltb}
 use Rattle.rows_laws.specs.All.{wake_at}
 use Rattle.rows.proofs.wake.wake_at.Goals as goal
 

@@ -1,6 +1,5 @@
 -- `wake_row` meets its contract: the steps in order.
 use Rattle.rows_laws.specs.All.{wake_row}
-use Rattle.machine.specs.All.{rules}
 use Rattle.rows.proofs.wake.wake_row.Goals as goal
 
 pub returns : goal.returns

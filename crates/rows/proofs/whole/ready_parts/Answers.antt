@@ -1,6 +1,6 @@
 -- `ready_parts` meets its contract. The invariant: what is left to do from here is all of it. The measure: the parts left.
-use Rattle.machine.specs.All.{ℕ, zero, suc, ◌*◌, ◌-◌, ◌≤◌, ◌≡◌, ◌≢◌, refl, sym, ◌∙◌, List, arith, length, ne_eqb}
-use Rattle.rows_laws.specs.All.{part_rows, part_count, ready_rows, ready_count, ready_parts}
+use Rattle.machine.specs.All.{ℕ, zero, suc, ◌*◌, ◌-◌, ◌≡◌, ◌≢◌, refl, sym, ◌∙◌, List, arith, ne_eqb}
+use Rattle.rows_laws.specs.All.{part_rows, ready_rows, ready_count, ready_parts}
 use Rattle.rows.proofs.whole.ready_parts.Goals as goal
 
 parts-end : (n : ℕ) (w : List ℕ) (p left : ℕ) → n ≡ 0 → ready_parts n w p left ≡ w
@@ -25,13 +25,13 @@ pub returns-then-left-eq0 : goal.returns-then-left-eq0
 returns-then-left-eq0 c = sym (parts-stop _ _ _ _ c.if-left-eq0.true) ∙ c.loop-c.invariant.0
 
 pub loop-c-preserved : goal.loop-c-preserved
-loop-c-preserved c =
-    (sym
-          (parts_next _ _ _ _ _ _ _ _ (omega arith) c.if-left-eq0.false c.ready_rows.ensures.rows
-          c.ready_rows.ensures.count c.fewer-left.ensures)
-          ∙ c.loop-c.invariant.0,
-      (omega arith, omega arith),
-    )
+loop-c-preserved c = (
+  sym
+      (parts_next _ _ _ _ _ _ _ _ (omega arith) c.if-left-eq0.false c.ready_rows.ensures.rows
+      c.ready_rows.ensures.count c.fewer-left.ensures)
+      ∙ c.loop-c.invariant.0,
+  (omega arith, omega arith),
+)
 
 pub returns : goal.returns
 returns c = sym (parts-end _ _ _ _ (omega arith)) ∙ c.loop-c.invariant.0

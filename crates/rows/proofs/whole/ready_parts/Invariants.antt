@@ -1,6 +1,6 @@
 -- `ready_parts` meets its contract. The invariant: what is left to do from here is all of it. The measure: the parts left.
-use Rattle.machine.specs.All.{ℕ, zero, suc, ◌*◌, ◌-◌, ◌≤◌, ◌≡◌, ◌≢◌, refl, sym, ◌∙◌, List, arith, length, ne_eqb}
-use Rattle.rows_laws.specs.All.{part_rows, part_count, ready_rows, ready_count, ready_parts}
+use Rattle.machine.specs.All.{◌≤◌, ◌≡◌, length}
+use Rattle.rows_laws.specs.All.{part_count, ready_parts}
 use Rattle.rows.proofs.whole.ready_parts.Given as goal
 
 abbrev pub invariant-loop-c : goal.invariant-loop-c

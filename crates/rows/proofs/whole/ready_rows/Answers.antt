@@ -1,5 +1,5 @@
 -- `ready_rows` meets its contract. The invariant: the first rows of the part are done and counted. The measure: those left.
-use Rattle.machine.specs.All.{ℕ, ◌+◌, ◌-◌, ◌≤◌, ◌≡◌, refl, List, arith, add-one, length}
+use Rattle.machine.specs.All.{ℕ, ◌+◌, ◌≡◌, refl, List, arith, add-one}
 use Rattle.rows_laws.specs.All.{part_rows, ready_row, ready_rows, ready_count, one_if, load, place}
 use Rattle.rows.proofs.whole.ready_rows.Goals as goal
 

@@ -1,5 +1,5 @@
 -- `ready_standing` meets its contract, by cases on the place.
-use Rattle.machine.specs.All.{eq-eqb, ne_eqb, rules}
+use Rattle.machine.specs.All.{eq-eqb, ne_eqb}
 use Rattle.rows_laws.specs.All.{ready_standing}
 use Rattle.rows.proofs.whole.ready_standing.Goals as goal
 

@@ -1,6 +1,5 @@
 -- `wake_whole` meets its contract: the rows, then the chain.
 use Rattle.rows_laws.specs.All.{wake_whole}
-use Rattle.machine.specs.All.{rules}
 use Rattle.rows.proofs.whole.wake_whole.Goals as goal
 
 pub returns : goal.returns
