@@ -1,5 +1,5 @@
 -- `asked` meets its contract: the entries first, then what else the block changes.
-use Rattle.machine.specs.All.{eq-eqb, ne_eqb, rules}
+use Rattle.machine.specs.All.{eq-eqb, ne_eqb}
 use Rattle.watch.specs.{asked_of}
 use Rattle.watch.proofs.reads.asked.Goals as goal
 

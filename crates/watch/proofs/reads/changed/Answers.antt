@@ -1,5 +1,5 @@
 -- `changed` meets its contract: each arm is its line of the definition.
-use Rattle.machine.specs.All.{ne_eqb, rules}
+use Rattle.machine.specs.All.{ne_eqb, arith}
 use Rattle.watch.specs.{changed_cell}
 use Rattle.watch.proofs.reads.changed.Goals as goal
 
@@ -48,12 +48,12 @@ unfolding changed_cell
 returns-in_default c =
     rw (
       ← c.number.ensures,
-      ne_eqb _ 4 c.in_default.rest.0.0.0.0.0.0.0.1,
-      ne_eqb _ 5 c.in_default.rest.0.0.0.0.0.0.1,
-      ne_eqb _ 6 c.in_default.rest.0.0.0.0.0.1,
-      ne_eqb _ 7 c.in_default.rest.0.0.0.0.1,
-      ne_eqb _ 15 c.in_default.rest.0.0.0.1,
-      ne_eqb _ 16 c.in_default.rest.0.0.1,
-      ne_eqb _ 19 c.in_default.rest.0.1,
-      ne_eqb _ 20 c.in_default.rest.1,
+      ne_eqb c.number.result 4 (λ e. omega arith),
+      ne_eqb c.number.result 5 (λ e. omega arith),
+      ne_eqb c.number.result 6 (λ e. omega arith),
+      ne_eqb c.number.result 7 (λ e. omega arith),
+      ne_eqb c.number.result 15 (λ e. omega arith),
+      ne_eqb c.number.result 16 (λ e. omega arith),
+      ne_eqb c.number.result 19 (λ e. omega arith),
+      ne_eqb c.number.result 20 (λ e. omega arith),
     )

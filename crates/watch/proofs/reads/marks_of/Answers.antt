@@ -1,5 +1,5 @@
 -- `marks_of` meets its contract: the WAITIFs, then through the values.
-use Rattle.machine.specs.All.{◌∙◌, rules}
+use Rattle.machine.specs.All.{◌∙◌}
 use Rattle.watch.proofs.reads.marks_of.Goals as goal
 
 pub returns : goal.returns

@@ -1,7 +1,6 @@
 -- `reach` meets its contract. The invariant: the rest from here is the whole. The measure: the values left.
-use Rattle.machine.specs.All.{◌≤◌, arith, ◌≡◌, refl, sym, ◌∙◌, length}
+use Rattle.machine.specs.All.{◌≤◌, ◌≡◌, length}
 use Rattle.watch.specs.{reach}
-use Rattle.watch.proofs.Loops.{reach-next, reach-end}
 use Rattle.watch.proofs.reads.reach.Given as goal
 
 abbrev pub invariant-loop-k : goal.invariant-loop-k

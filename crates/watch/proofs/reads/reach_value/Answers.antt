@@ -1,5 +1,5 @@
 -- `reach_value` meets its contract, by cases on whether the value is marked.
-use Rattle.machine.specs.All.{ap, eq-eqb, ne_eqb, rules}
+use Rattle.machine.specs.All.{ap, eq-eqb, ne_eqb}
 use Rattle.watch.specs.{Walked, walked, reach_value}
 use Rattle.watch.proofs.reads.reach_value.Goals as goal
 

@@ -1,7 +1,6 @@
 -- `store_asked` meets its contract. The invariant: the first b blocks are done. The measure: the blocks left.
-use Rattle.machine.specs.All.{◌-◌, ◌≤◌, arith, ◌≡◌, refl, ◌∙◌, rules, length}
+use Rattle.machine.specs.All.{◌-◌, ◌≤◌, ◌≡◌, length}
 use Rattle.watch.specs.{asked_stored}
-use Rattle.watch.proofs.Loops.{asked-none, asked-next, asked-all}
 use Rattle.watch.proofs.reads.store_asked.Given as goal
 
 abbrev pub invariant-loop-b : goal.invariant-loop-b

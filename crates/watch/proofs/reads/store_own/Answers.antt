@@ -1,6 +1,5 @@
 -- `store_own` meets its contract. The invariant: the first k values are done. The measure: the values left.
-use Rattle.machine.specs.All.{◌-◌, ◌≤◌, arith, ◌≡◌, refl, ◌∙◌, rules, length}
-use Rattle.watch.specs.{own_stored}
+use Rattle.machine.specs.All.{arith, refl, ◌∙◌}
 use Rattle.watch.proofs.Loops.{own-none, own-next, own-all}
 use Rattle.watch.proofs.reads.store_own.Goals as goal
 
@@ -9,9 +8,9 @@ loop-k-init c = (own-none _ _, (omega arith, refl))
 
 pub names_own-x-requires : goal.names_own-x-requires
 names_own-x-requires c = record {
-      values_le_max_values = omega arith;
-      k_lt_max_values = omega arith;
-    }
+  values_le_max_values = omega arith;
+  k_lt_max_values = omega arith;
+}
 
 pub loop-k-preserved : goal.loop-k-preserved
 loop-k-preserved c =

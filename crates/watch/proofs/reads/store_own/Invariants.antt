@@ -1,7 +1,6 @@
 -- `store_own` meets its contract. The invariant: the first k values are done. The measure: the values left.
-use Rattle.machine.specs.All.{◌-◌, ◌≤◌, arith, ◌≡◌, refl, ◌∙◌, rules, length}
+use Rattle.machine.specs.All.{◌-◌, ◌≤◌, ◌≡◌, length}
 use Rattle.watch.specs.{own_stored}
-use Rattle.watch.proofs.Loops.{own-none, own-next, own-all}
 use Rattle.watch.proofs.reads.store_own.Given as goal
 
 abbrev pub invariant-loop-k : goal.invariant-loop-k

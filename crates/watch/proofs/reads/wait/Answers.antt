@@ -1,5 +1,5 @@
 -- `wait` meets its contract, by cases on the kind of the block.
-use Rattle.machine.specs.All.{ap, eq-eqb, ne_eqb, rules}
+use Rattle.machine.specs.All.{ap, eq-eqb, ne_eqb}
 use Rattle.watch.specs.{Walked, walked, wait_marks}
 use Rattle.watch.proofs.reads.wait.Goals as goal
 

@@ -1,6 +1,5 @@
 -- `waits` meets its contract. The invariant: the first b blocks are done. The measure: the blocks left.
-use Rattle.machine.specs.All.{◌-◌, ◌≤◌, arith, ◌≡◌, refl, ◌∙◌, length}
-use Rattle.watch.specs.{waits_marks}
+use Rattle.machine.specs.All.{arith, refl, ◌∙◌}
 use Rattle.watch.proofs.Loops.{waits-none, waits-next, waits-all}
 use Rattle.watch.proofs.reads.waits.Goals as goal
 

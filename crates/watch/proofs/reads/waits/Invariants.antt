@@ -1,7 +1,6 @@
 -- `waits` meets its contract. The invariant: the first b blocks are done. The measure: the blocks left.
-use Rattle.machine.specs.All.{◌-◌, ◌≤◌, arith, ◌≡◌, refl, ◌∙◌, length}
+use Rattle.machine.specs.All.{◌-◌, ◌≤◌, ◌≡◌, length}
 use Rattle.watch.specs.{waits_marks}
-use Rattle.watch.proofs.Loops.{waits-none, waits-next, waits-all}
 use Rattle.watch.proofs.reads.waits.Given as goal
 
 abbrev pub invariant-loop-b : goal.invariant-loop-b

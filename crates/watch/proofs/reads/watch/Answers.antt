@@ -1,6 +1,5 @@
 -- `watch` meets its contract: the values, the marks, the blocks and the clock.
 use Rattle.watch.proofs.Loops.{watched-by}
-use Rattle.machine.specs.All.{rules}
 use Rattle.watch.proofs.reads.watch.Goals as goal
 
 pub returns : goal.returns

@@ -1,5 +1,5 @@
 -- The proof of the cycle of calls: a term and the terms of a bracket call each other. The measure: brackets that may open, then terms left.
-use Rattle.machine.specs.All.{◌+◌, ◌*◌, sym, rules, ℕ, ◌<◌}
+use Rattle.machine.specs.All.{sym}
 use Rattle.watch.proofs.Steps.{term-past, term_simple, term_deep, term-comparison, term-bracket, terms-none, terms-past, terms-more}
 use Rattle.watch.proofs.walk.+term_terms.Goals as goal
 

@@ -1,5 +1,5 @@
 -- `cell` meets its contract: each way is its line of the definition.
-use Rattle.machine.specs.All.{lt-ltb, le-ltb, eq-eqb, ne_eqb, rules}
+use Rattle.machine.specs.All.{lt-ltb, le-ltb, eq-eqb, ne_eqb}
 use Rattle.watch.specs.{cell_of}
 use Rattle.watch.proofs.walk.cell.Goals as goal
 

@@ -1,5 +1,5 @@
 -- `mark` meets its contract: a store at the cell.
-use Rattle.machine.specs.All.{◌∙◌, rules}
+use Rattle.machine.specs.All.{◌∙◌}
 use Rattle.watch.proofs.walk.mark.Goals as goal
 
 pub returns : goal.returns

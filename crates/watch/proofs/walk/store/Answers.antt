@@ -1,5 +1,5 @@
 -- `store` meets its contract: past the end `set` changes nothing.
-use Rattle.machine.specs.All.{sym, set_out, rules}
+use Rattle.machine.specs.All.{sym, set_out}
 use Rattle.watch.proofs.walk.store.Goals as goal
 
 pub returns-else-at-l : goal.returns-else-at-l
