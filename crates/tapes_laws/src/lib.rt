@@ -5,7 +5,7 @@
 
 // "a fixed time, a mean with a half-width, or a curve through points": of a curve, the index of its
 // first double among those that are held beside it.
-#[derive(Drop)]
+#[derive(Clone, Copy)]
 pub enum Distribution {
     Fixed(f64),
     Spread(f64, f64),
