@@ -16,14 +16,14 @@ const GROUP: u64 = 128;
 const EMPTY_GROUP: u8 = 128;
 
 // A number at a position: its value and the position after it.
-#[derive(Drop)]
+#[derive(Clone, Copy)]
 pub enum Read {
     Number(u64, usize),
     Refused,
 }
 
 // A number in a field's range: its value and the position after it, or the number of the refusal.
-#[derive(Drop)]
+#[derive(Clone, Copy)]
 pub enum Field {
     Value(u64, usize),
     Refused(u32),

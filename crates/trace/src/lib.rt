@@ -19,7 +19,7 @@ pub const MAX_BLOCK: u64 = Model::MAX_BLOCKS as u64;
 
 pub const MAX_OUTCOME: u64 = 1;
 
-#[derive(Drop)]
+#[derive(Clone, Copy)]
 pub struct Record {
     pub clock: u64,
     pub transaction: u64,
@@ -28,7 +28,7 @@ pub struct Record {
 }
 
 // A record and the position after it; or the number of the refusal; or no more.
-#[derive(Drop)]
+#[derive(Clone, Copy)]
 pub enum Reading {
     Taken(Record, usize),
     Refused(u32),
@@ -36,7 +36,7 @@ pub enum Reading {
 }
 
 // How many bytes were written; or the number of the refusal.
-#[derive(Drop)]
+#[derive(Clone, Copy)]
 pub enum Written {
     Bytes(usize),
     Refused(u32),

@@ -1,5 +1,5 @@
 -- `codec::put_number` meets its contract: each length has its own stores.
-use Rattle.machine.specs.All.{◌≡◌, sym, arith, length, number_bytes, rules}
+use Rattle.machine.specs.All.{sym, arith}
 use Rattle.codec.proofs.Numbers.{number_bytes-one, number_bytes_exact}
 use Rattle.codec.proofs.put_number.Goals as goal
 

@@ -1,7 +1,7 @@
 -- `codec::read_groups` meets its contract. The loop's invariant: the answer is that of the groups still to come at `next`
 -- behind `value`, and `value` leaves room for `left` groups more. The measure is `left`.
-use Rattle.machine.specs.All.{◌+◌, ◌*◌, ◌^◌, ◌≤◌, ◌≡◌, refl, sym, ◌∙◌, arith, rules}
-use Rattle.codec.proofs.Steps.{at-groups, read-end, read-limit, read-last, read_more, room-start, room-step, room_fits}
+use Rattle.machine.specs.All.{refl, sym, ◌∙◌, arith}
+use Rattle.codec.proofs.Steps.{read-end, read-limit, read-last, read_more, room-start, room-step, room_fits}
 use Rattle.codec.proofs.read_groups.Goals as goal
 
 pub loop-left-init : goal.loop-left-init
@@ -43,12 +43,12 @@ overflow_add-value-in-loop-left c =
     )
 
 pub loop-left-preserved : goal.loop-left-preserved
-loop-left-preserved c =
-    (omega arith,
-      room-step _ _ _ c.loop-left-test.true (omega (arith, (c.shared_slice_known-in-loop-left-1.given c.loop-left.next)))
-          c.loop-left.invariant.1,
-      sym (read_more _ _ _ _ _ c.loop-left-test.true (omega arith) c.if-b-lt-GROUP.false) ∙ c.loop-left.invariant.2,
-    )
+loop-left-preserved c = (
+  omega arith,
+  room-step _ _ _ c.loop-left-test.true (omega (arith, (c.shared_slice_known-in-loop-left-1.given c.loop-left.next)))
+      c.loop-left.invariant.1,
+  sym (read_more _ _ _ _ _ c.loop-left-test.true (omega arith) c.if-b-lt-GROUP.false) ∙ c.loop-left.invariant.2,
+)
 
 pub returns : goal.returns
 returns c =

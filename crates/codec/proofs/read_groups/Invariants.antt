@@ -1,7 +1,7 @@
 -- `codec::read_groups` meets its contract. The loop's invariant: the answer is that of the groups still to come at `next`
 -- behind `value`, and `value` leaves room for `left` groups more. The measure is `left`.
-use Rattle.machine.specs.All.{◌+◌, ◌*◌, ◌^◌, ◌≤◌, ◌≡◌, refl, sym, ◌∙◌, arith, rules}
-use Rattle.codec.proofs.Steps.{at-groups, read-end, read-limit, read-last, read_more, room-start, room-step, room_fits}
+use Rattle.machine.specs.All.{◌+◌, ◌*◌, ◌^◌, ◌≤◌, ◌≡◌}
+use Rattle.codec.proofs.Steps.{at-groups}
 use Rattle.codec.proofs.read_groups.Given as goal
 
 abbrev pub invariant-loop-left : goal.invariant-loop-left

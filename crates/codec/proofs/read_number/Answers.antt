@@ -1,5 +1,5 @@
 -- `codec::read_number` meets its contract: that of `read_shortest`, in the paper's terms.
-use Rattle.machine.specs.All.{max_number_bytes, rules}
+use Rattle.machine.specs.All.{max_number_bytes}
 use Rattle.codec.proofs.Answers.{number-answer, number-inside}
 use Rattle.codec.proofs.read_number.Goals as goal
 

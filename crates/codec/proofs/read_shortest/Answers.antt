@@ -1,5 +1,5 @@
 -- `codec::read_shortest` meets its contract: no byte there, an empty first group, or what the groups give.
-use Rattle.machine.specs.All.{◌∙◌, arith, rules}
+use Rattle.machine.specs.All.{◌∙◌, arith}
 use Rattle.codec.proofs.Answers.{read_past, read-padded, read_unpadded}
 use Rattle.codec.proofs.read_shortest.Goals as goal
 

@@ -1,6 +1,6 @@
 -- `codec::store_number` meets its contract. The loop's invariant: with the groups that are left to store, the bytes are
 -- those of the whole number; there are as many groups as `left`. The measure is `left`.
-use Rattle.machine.specs.All.{◌≤◌, ◌≡◌, refl, ◌∙◌, arith, length, length-set, sets, upper}
+use Rattle.machine.specs.All.{refl, ◌∙◌, arith, length-set}
 use Rattle.codec.proofs.Numbers.{number_bytes-positive}
 use Rattle.codec.proofs.Stores.{store-start, store-whole, store-fewer, store_step, store-done}
 use Rattle.codec.proofs.store_number.Goals as goal

@@ -1,5 +1,5 @@
 -- `codec::write_number` meets its contract: with room the number is stored there, without room nothing is.
-use Rattle.machine.specs.All.{sym, ap₂, ◌∙◌, arith, rules}
+use Rattle.machine.specs.All.{sym, ap₂, ◌∙◌, arith}
 use Rattle.codec.specs.{written}
 use Rattle.codec.proofs.Writing.{put-room, put_full}
 use Rattle.codec.proofs.write_number.Goals as goal

@@ -1,5 +1,5 @@
 -- `number` meets its contract: past the end `get_or` gives 0. Assumes nothing.
-use Rattle.machine.specs.All.{sym, rules, get_or-eq_default}
+use Rattle.machine.specs.All.{sym, get_or-eq_default}
 use Rattle.layout.proofs.number.Goals as goal
 
 pub returns : goal.returns

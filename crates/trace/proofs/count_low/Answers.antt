@@ -1,6 +1,6 @@
 -- `trace::count_low` meets its contract. The invariant of each of its loops: what was counted and what the bytes from `i` on give are
 -- together the count of all. The measure is what is left of the length.
-use Rattle.machine.specs.All.{◌+◌, ◌-◌, ◌≤◌, zero-add, arith, ◌≡◌, length, drop, rules, count_low}
+use Rattle.machine.specs.All.{zero-add, arith}
 use Rattle.trace.proofs.Counting.{counted, counted-all}
 use Rattle.trace.proofs.count_low.Goals as goal
 

@@ -1,5 +1,5 @@
 -- `trace::fits` meets its contract: where there is room for any record, there is for this one.
-use Rattle.machine.specs.All.{arith, sym, rules, le-leb}
+use Rattle.machine.specs.All.{arith, sym, le-leb}
 use Rattle.trace.specs.{entry}
 use Rattle.trace.proofs.Writer.{record-room}
 use Rattle.trace.proofs.fits.Goals as goal

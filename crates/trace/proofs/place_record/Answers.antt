@@ -1,5 +1,4 @@
 -- `trace::place_record` meets its contract: four numbers written one after the other are the record stored at once.
-use Rattle.machine.specs.All.{rules}
 use Rattle.trace.proofs.Writer.{written_behind}
 use Rattle.trace.proofs.place_record.Goals as goal
 

@@ -1,5 +1,5 @@
 -- `trace::put_record` meets its contract: four numbers put one after the other are the record stored at once.
-use Rattle.machine.specs.All.{arith, ◌++◌, length-append, rules, number_bytes, record_bytes}
+use Rattle.machine.specs.All.{arith, ◌++◌, length-append, number_bytes, record_bytes}
 use Rattle.trace.specs.{entry}
 use Rattle.trace.proofs.Writer.{record_bytes-length, small, stored-behind}
 use Rattle.trace.proofs.put_record.Goals as goal
@@ -8,7 +8,7 @@ pub put_number-p1-requires : goal.put_number-p1-requires
 put_number-p1-requires c =
     let r = entry _ _ _ _ in
     record {
-      v_le_five_groups = (small r c.requires.0).clock;
+      v_le_five_groups = (small r c.requires.outcome_value).clock;
       v_in_bounds = omega (arith, record_bytes-length r);
     }
 
@@ -16,25 +16,25 @@ pub put_number-p2-requires : goal.put_number-p2-requires
 put_number-p2-requires c =
     let r = entry _ _ _ _ in
     record {
-      v_le_five_groups = (small r c.requires.0).transaction;
-      v_in_bounds = omega (arith, c.requires.1, record_bytes-length r);
+      v_le_five_groups = (small r c.requires.outcome_value).transaction;
+      v_in_bounds = omega (arith, c.requires.outcome_in_bounds, record_bytes-length r);
     }
 
 pub put_number-p3-requires : goal.put_number-p3-requires
 put_number-p3-requires c =
     let r = entry _ _ _ _ in
     record {
-      v_le_five_groups = (small r c.requires.0).block;
-      v_in_bounds = omega (arith, c.requires.1, record_bytes-length r, c.put_number-p1.ensures.position);
+      v_le_five_groups = (small r c.requires.outcome_value).block;
+      v_in_bounds = omega (arith, c.requires.outcome_in_bounds, record_bytes-length r, c.put_number-p1.ensures.position);
     }
 
 pub put_number-requires : goal.put_number-requires
 put_number-requires c =
     let r = entry _ _ _ _ in record {
-      v_le_five_groups = (small r c.requires.0).outcome;
+      v_le_five_groups = (small r c.requires.outcome_value).outcome;
       v_in_bounds = omega (
         arith,
-        c.requires.1,
+        c.requires.outcome_in_bounds,
         record_bytes-length r,
         c.put_number-p2.ensures.position,
         c.put_number-p3.ensures.position,

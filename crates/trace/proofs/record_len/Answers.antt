@@ -1,5 +1,5 @@
 -- `trace::record_len` meets its contract: four lengths, each at most nine.
-use Rattle.machine.specs.All.{arith, rules}
+use Rattle.machine.specs.All.{arith}
 use Rattle.codec.proofs.Numbers.{number_bytes-longest}
 use Rattle.trace.proofs.Writer.{record_bytes-length}
 use Rattle.trace.specs.{entry}

@@ -1,5 +1,5 @@
 -- `words::count_1` meets its contract: the byte at the position.
-use Rattle.machine.specs.All.{arith, rules}
+use Rattle.machine.specs.All.{arith}
 use Rattle.trace.proofs.Counting.{byte_low, byte_high}
 use Rattle.trace.proofs.words.count_1.Goals as goal
 

@@ -1,5 +1,4 @@
 -- `words::count_8` meets its contract: the count of the word that holds the eight bytes.
-use Rattle.machine.specs.All.{rules}
 use Rattle.trace.proofs.words.count_8.Goals as goal
 
 pub returns : goal.returns

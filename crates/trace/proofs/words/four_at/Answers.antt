@@ -1,5 +1,4 @@
 -- `words::four_at` meets its contract: the lower half holds the first 2 bytes, the upper half the others.
-use Rattle.machine.specs.All.{rules}
 use Rattle.trace.proofs.WordLaws.{holds_beside}
 use Rattle.trace.proofs.words.four_at.Goals as goal
 

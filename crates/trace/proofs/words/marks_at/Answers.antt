@@ -1,5 +1,4 @@
 -- `words::marks_at` meets its contract: the marks of the word that holds the eight bytes.
-use Rattle.machine.specs.All.{rules}
 use Rattle.trace.proofs.words.marks_at.Goals as goal
 
 pub returns : goal.returns
