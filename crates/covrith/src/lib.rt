@@ -54,11 +54,7 @@ pub fn covrith_run(
 }
 
 // The record at a position of a trace.
-pub fn covrith_read_record(
-    trace: &[u8],
-    position: usize,
-    numbers: &mut [u64; RECORD],
-) -> u32
+pub fn covrith_read_record(trace: &[u8], position: usize, numbers: &mut [u64; RECORD]) -> u32
     ensures value { result ≡ read_answer (read_record in_force trace.now position) }
     ensures numbers_after { numbers.new ≡ read_numbers (read_record in_force trace.now position) numbers.old }
 {
