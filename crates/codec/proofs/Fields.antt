@@ -4,7 +4,7 @@ use Rattle.machine.specs.All.{clash, ℕ, suc, ◌+◌, ◌≤◌, arith, Bool, 
 use Rattle.codec.specs.{declared.Field.Field, declared.Field.TheVariants.Value, declared.Field.TheVariants.Refused}
 use Rattle.codec.specs.{cursor_at, parsed_of}
 use Rattle.codec.proofs as our
-use our.Groups.{Bytes, Bytes-drop}
+use our.Groups.{Bytes, bytes_drop}
 use our.Numbers.{number_bytes-length, number_bytes-reads, number_bytes-read, accepted}
 
 -- ---- The answer
@@ -71,7 +71,7 @@ field-taken s most at v code lo hi numbers mentions after bytes e =
         let ec : cursor_at (at + n.size) numbers mentions ≡ after = cc in
         let inside = (accepted max_number_bytes most (drop at s) n f).inside in
         let nb : number_bytes v ≡ take n.size (drop at s) =
-        ap number_bytes (sym ev) ∙ number_bytes-read max_number_bytes most (drop at s) n (omega arith) (Bytes-drop at s bytes) f in
+        ap number_bytes (sym ev) ∙ number_bytes-read max_number_bytes most (drop at s) n (omega arith) (bytes_drop at s bytes) f in
         let len : length (number_bytes v) ≡ n.size = ap length nb ∙ length-take-le n.size (drop at s) inside in
         let range = between lo n.value hi t in
         record {

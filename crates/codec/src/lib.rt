@@ -1,5 +1,8 @@
 // Numbers in bytes (document 01, "Bytes"): groups of seven bits, highest first, top bit set on all
 // bytes but the last, shortest form.
+
+#![tactic(auto)]
+
 ghost use Rattle.machine.specs.All.{◌≡◌, cond, ℕ, ◌+◌, ◌≤◌, ◌<◌, leb, length, drop, sets, five_groups, max_number_bytes, max_report_number_bytes, max_report_number, groups, within, read_number, number_bytes, field_up_to};
 ghost use Rattle.codec.specs.Answers.{number_of, read_as, cursor_at, parsed_of};
 ghost use Rattle.codec.specs.Writing.{written, put};
@@ -13,14 +16,14 @@ const GROUP: u64 = 128;
 const EMPTY_GROUP: u8 = 128;
 
 // A number at a position: its value and the position after it.
-#[derive(Drop)]
+#[derive(Clone, Copy)]
 pub enum Read {
     Number(u64, usize),
     Refused,
 }
 
 // A number in a field's range: its value and the position after it, or the number of the refusal.
-#[derive(Drop)]
+#[derive(Clone, Copy)]
 pub enum Field {
     Value(u64, usize),
     Refused(u32),

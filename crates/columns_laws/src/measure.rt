@@ -1,7 +1,7 @@
 use crate::walk::Walk;
 
 // The number of records and a walk whose columns count bytes.
-#[derive(Drop)]
+#[derive(Clone, Copy)]
 pub enum Measured {
     Taken(u64, Walk),
     Refused,

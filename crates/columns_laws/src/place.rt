@@ -1,5 +1,5 @@
 // A record and the position after it.
-#[derive(Drop)]
+#[derive(Clone, Copy)]
 pub struct Entry {
     pub clock: u64,
     pub transaction: u64,

@@ -1,5 +1,5 @@
 // A position in the trace and in each column, and the clock of the record before.
-#[derive(Drop)]
+#[derive(Clone, Copy)]
 pub struct Walk {
     pub at: usize,
     pub clock: u64,

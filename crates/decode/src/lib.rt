@@ -23,14 +23,14 @@ use program::{blocks, groups_whole, single, targets_move, well_placed};
 use watch::watch;
 
 // What decoding gives: the header of the model, or the number of the first question answered "no".
-#[derive(Drop)]
+#[derive(Clone, Copy)]
 pub enum Decoded {
     Model(Model),
     Refused(u32),
 }
 
 // A part of the model that was read: the header so far, and where reading stands.
-#[derive(Drop)]
+#[derive(Clone, Copy)]
 enum Header {
     Read(Model, Place),
     Refused(u32),
@@ -215,7 +215,7 @@ fn formed_model(s: &[u8], tables: &mut [u32; TABLES]) -> Decoded
 // ---- The tape
 
 // Reading of the tape: the position after what was read.
-#[derive(Drop)]
+#[derive(Clone, Copy)]
 enum Tape {
     At(usize),
     Refused(u32),

@@ -1,5 +1,5 @@
 // "A run returns refusal (0 for none), end, clock, turns, made, ended, bytes of trace and of report."
-#[derive(Drop)]
+#[derive(Clone, Copy)]
 pub struct Outcome {
     pub refusal: u64,
     pub end: u64,

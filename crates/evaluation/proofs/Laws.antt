@@ -6,7 +6,7 @@ use Rattle.evaluation.specs.{Worth, term_at, compare_at, nested_term, nested_blo
 use Rattle.evaluation.specs.{Nested.Nested, Sees.Sees}
 use Rattle.evaluation.proofs as our
 use our.Found.{at_first, at_front, at_back}
-use our.Terms.{and_left, and_right, related-by, term_Found}
+use our.Terms.{and_left, and_right, related-by, term_found}
 use our.Values.{Values, all_found}
 
 -- a term with no bracket is two numbers
@@ -37,7 +37,7 @@ module _ {m : BlockModel} {tape : List (List ℕ)} {tape_bytes tables lists : Li
   unfolding term_at evaluate
   term_law t at h small nested =
       ap (λ (x : Worth). x.worth)
-      (term_Found s p (worths w (parameters_of p) m.values []) _ (all_found s p values) t 0 at h small nested)
+      (term_found s p (worths w (parameters_of p) m.values []) _ (all_found s p values) t 0 at h small nested)
 
   -- left, relation and right from a position on
   pub compare_law : (a : Term) (o : Relation) (b : Term) (rest : List ℕ) (at : ℕ)

@@ -44,7 +44,7 @@ low32-lt (negsuc n) = omega arith
 
 -- written as bits and read back
 pub back : (z : ℤ) → mag z < 2147483648 → to_z w32 (of_z w32 z) ≡ z
-back z h = to_z-of_z (record { sfits = h })
+back z h = to_z-of_z {w = w32} {z = z} (record { sfits = h })
 
 -- 0 ≤ z: its bits are its size
 pub abs_cast : (z : ℤ) → le_z (pos 0) z ≡ true → SFits w32 z → T (non_neg z) × Fits w32 (nat_abs z)

@@ -1,4 +1,7 @@
 // Evaluation of terms and values (document 01, "Blocks"), over the decoded tables and the tally.
+
+#![tactic(auto)]
+
 mod answer;
 mod evaluate;
 mod relations;

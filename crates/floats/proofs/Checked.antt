@@ -8,7 +8,7 @@ use lib.Ieee.Fits.{down_pos}
 use Rattle.floats.specs.{max_time_parts, Is, parts_of, whole_part_lem}
 use Rattle.floats.proofs as our
 use our.Values.{rounds_rescaled, rounds_exact, mul_rounds, div_rounds}
-use our.Whole.{both, whole_is, Equal-is, is-equal, whole-number}
+use our.Whole.{both, whole_is, equal_is, is-equal, whole-number}
 
 -- ---- Parts and value
 
@@ -106,7 +106,7 @@ module _ (x scale : Float) (k most : ℕ) (small : most ≤ max_time_parts) (pow
         go (some j) f =
             let g = same_count j f in
             let is : Is x n (2 ^ k) = subst (λ (z : ℕ). Is x z (2 ^ k)) (sym g.0) g.1 in
-            let b : true ≡ false = sym (Equal-is n (2 ^ k) (pow_pos k) _ x (divided n h) is) ∙ t in
+            let b : true ≡ false = sym (equal_is n (2 ^ k) (pow_pos k) _ x (divided n h) is) ∙ t in
             let z : ◌≡◌ {A = ℕ} 0 1 = ap (λ (y : Bool). cond y 0 1) b in
             absurd (omega arith)
 

@@ -5,7 +5,7 @@ use native.Mathlib.Nat.{mul-mul-mul_comm, mul-mod_left, lt-div-mul-add, div-eq_o
 use lib.Arith.{lt_of_le-ne}
 use borrow.Author.Tests.{eqb-false}
 use lib.Ieee.Nearest.{div_same}
-use lib.Ieee.{Float, binary64, prec, low, of_bits, add, sub, mul, div}
+use lib.Ieee.{Float, binary64, prec, of_bits, add, sub, mul, div}
 use Rattle.floats.specs.{max_time_parts, max_mean_parts, draw_parts, million, Is, whole_part_lem, line_double, line_over, line_under, Ends, Near, OnLine, spread_double, spread_over, spread_under, Width, Exactly}
 use Rattle.floats.proofs as our
 use our.Values.{Rounds, Off, one, is_rescaled, rounds_rescaled, rounds_exact, rounds-off, add_rounds, sub_rounds, mul_rounds, div_rounds}

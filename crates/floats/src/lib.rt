@@ -1,5 +1,8 @@
 // Doubles of known value (document 02, item 4): the check of a caller's double, the interpolation on
 // a curve's segment and the spread.
+
+#![tactic(auto)]
+
 ghost use Rattle.std.specs.Prelude.{◌≡◌, ℕ, ◌/◌, ◌^◌, ◌≤◌};
 ghost use Rattle.std.specs.Float.{binary64};
 ghost use Rattle.floats.specs.Limits.{time_parts, max_time_parts, draw_parts};

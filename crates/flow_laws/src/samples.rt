@@ -1,5 +1,5 @@
 // A time and the position after it.
-#[derive(Drop)]
+#[derive(Clone, Copy)]
 pub struct Sample {
     pub time: u64,
     pub next: usize,

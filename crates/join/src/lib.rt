@@ -17,7 +17,7 @@ use layout::{EDITION, LIST_CELLS, TABLES, number};
 use whole::{may_join, model};
 
 // The lengths of the joined model and tape, or the number of the refusal.
-#[derive(Drop)]
+#[derive(Clone, Copy)]
 pub enum Joined {
     Bytes(usize, usize),
     Refused(u32),

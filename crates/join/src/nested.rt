@@ -14,7 +14,7 @@ const VALUE_TAG: u32 = layout::VALUE_TAG as u32;
 const COMPARISON_TAG: u32 = layout::COMPARISON_TAG as u32;
 
 // Where reading and writing stand.
-#[derive(Drop)]
+#[derive(Clone, Copy)]
 struct Went {
     from: usize,
     to: usize,

@@ -1,5 +1,5 @@
 // How many facilities a part has, and how far its numbers are moved on.
-#[derive(Drop)]
+#[derive(Clone, Copy)]
 pub struct Shift {
     pub own: u32,
     pub facilities: u32,

@@ -1,5 +1,8 @@
 // The layout of a run's two arrays, as constants (specs/Layout). `TABLES` numbers of 32 bits are filled once by decoding;
 // `TALLY` numbers of 64 bits change with the run.
+
+#![tactic(auto)]
+
 ghost use Rattle.machine.specs.All.{◌≡◌, get_or, set};
 
 use constants::Model;

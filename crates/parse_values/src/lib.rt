@@ -15,7 +15,7 @@ use layout::{
 };
 
 // Where reading stands, and the largest block number that values named so far.
-#[derive(Drop)]
+#[derive(Clone, Copy)]
 pub struct Place {
     pub position: usize,
     // numbers and mentions of values, within one value
@@ -24,13 +24,13 @@ pub struct Place {
     pub named: usize,
 }
 
-#[derive(Drop)]
+#[derive(Clone, Copy)]
 pub enum Taken {
     Number(usize, Place),
     Refused(u32),
 }
 
-#[derive(Drop)]
+#[derive(Clone, Copy)]
 pub enum Stored {
     Done(Place),
     Refused(u32),
@@ -118,7 +118,7 @@ fn keep_counted(
 // ---- Terms
 
 // The numbers that may follow a tag, and what is stored for the lowest.
-#[derive(Drop)]
+#[derive(Clone, Copy)]
 pub struct Range {
     pub lo: usize,
     pub hi: usize,

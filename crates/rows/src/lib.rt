@@ -2,6 +2,8 @@
 // beside it say what each function does to the numbers of the buffer. Functions of several numbers take the buffer first, then
 // the list, then the cell or the row.
 
+#![tactic(auto)]
+
 pub mod cells;
 pub mod clock;
 pub mod future;

@@ -1,6 +1,11 @@
 // The first bytes of a file.
-ghost use Rattle.machine.specs.All.{◌≡◌, ℕ, ◌≤◌, length};
 ghost use Rattle.io.specs.Counts.{IsPrefixLen};
+ghost use Rattle.machine.specs.All.{◌≡◌, ℕ, ◌≤◌, length};
+
+use std::io;
+use std::io::Read;
+use std::rt::Files;
+use std::fs;
 
 // How many bytes were read; or the file could not be read, which standard error says.
 #[derive(Drop)]
@@ -9,25 +14,41 @@ pub enum File {
     Failed,
 }
 
+// A line on standard error: what failed, and why.
+pub fn fail(rt: &impl Eprint, what: &str, error: io::Error) {
+    let _ = eprintln!(rt; "{what}: {error}");
+}
+
 // One read. No bytes are the file's end.
-fn read_some(fd: i32, name: &[u8], rest: &mut [u8]) -> File
+fn read_some(
+    rt: &impl Eprint,
+    file: &mut impl Read,
+    name: &str,
+    rest: &mut [u8],
+) -> File
     ensures { (n : ℕ) → result ≡ File.Read n → n ≤ length rest.old }
 {
-    let got = libc::read(fd, rest);
-    if got < 0 {
-        os::fail(name);
-        return File::Failed;
+    match file.read(rest) {
+        Err(error) => {
+            fail(rt, name, error);
+            File::Failed
+        }
+        Ok(n) => File::Read(n),
     }
-    File::Read(io::count(got, rest))
 }
 
 // Reads until the buffer is full or the file ends.
-fn read_all(fd: i32, name: &[u8], buffer: &mut [u8]) -> File
+fn read_all(
+    rt: &impl Eprint,
+    file: &mut impl Read,
+    name: &str,
+    buffer: &mut [u8],
+) -> File
     ensures { (n : ℕ) → result ≡ File.Read n → IsPrefixLen n buffer.new }
 {
     let mut done = 0;
     while done < buffer.len() {
-        match read_some(fd, name, &mut buffer[done..]) {
+        match read_some(rt, file, name, &mut buffer[done..]) {
             File::Failed => return File::Failed,
             File::Read(n) => {
                 if n == 0 {
@@ -41,15 +62,14 @@ fn read_all(fd: i32, name: &[u8], buffer: &mut [u8]) -> File
 }
 
 // Reads the first bytes of a file, as many as the buffer has room for.
-pub fn read_file(name: &[u8], buffer: &mut [u8]) -> File
+pub fn read_file<R: Files + Eprint>(rt: &R, name: &str, buffer: &mut [u8]) -> File
     ensures { (n : ℕ) → result ≡ File.Read n → IsPrefixLen n buffer.new }
 {
-    let fd = os::open_read(name);
-    if fd < 0 {
-        os::fail(name);
-        return File::Failed;
+    match fs::open(rt, name) {
+        Err(error) => {
+            fail(rt, name, error);
+            File::Failed
+        }
+        Ok(mut file) => read_all(rt, &mut file, name, buffer),
     }
-    let file = read_all(fd, name, buffer);
-    libc::close(fd);
-    file
 }

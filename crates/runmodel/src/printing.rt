@@ -9,7 +9,7 @@ use constants::Model;
 use decode::Decoded;
 use engine::Outcome;
 use layout::{LIST_CELLS, TABLES};
-use libc::STDOUT_FILENO;
+use std::io;
 use trace::Reading;
 
 // How many numbers the report has at its head, per server and per queue; a line has one more.
@@ -21,34 +21,32 @@ const QUEUE: usize = 3;
 
 const NUMBERS: usize = 6;
 
-// Each function that prints answers whether all of it could be written.
-fn print_line(letters: &[u8], numbers: &[u64]) -> bool
+// Each function that prints fails where not all of it could be written.
+fn print_line(rt: &impl Print, letters: &[u8], numbers: &[u64]) -> io::Result<()>
     requires { length letters.now + number_room * length numbers.now ≤ line_room }
 {
     let mut out = [0u8; LINE];
     let n = line(&mut out, letters, numbers);
-    io::write_all(STDOUT_FILENO, &out[..n])
+    rt.write_all(&out[..n])
 }
 
-pub fn print_refused(number: u64) -> bool {
-    print_line(b"refused ", &[number])
+pub fn print_refused(rt: &impl Print, number: u64) -> io::Result<()> {
+    print_line(rt, b"refused ", &[number])
 }
 
 // Every record of a trace.
-fn print_records(trace: &[u8]) -> bool {
+fn print_records(rt: &impl Print, trace: &[u8]) -> io::Result<()> {
     let mut at = 0;
     let mut left = trace.len();
     while 0 < left {
         let Reading::Taken(r, next) = trace::read_record(trace, at) else {
-            return true;
+            return Ok(());
         };
-        if !print_line(b"", &[r.clock, r.transaction, r.block, r.outcome]) {
-            return false;
-        }
+        print_line(rt, b"", &[r.clock, r.transaction, r.block, r.outcome])?;
         at = next;
         left -= 1;
     }
-    true
+    Ok(())
 }
 
 // The report's number at a position, and the position after it.
@@ -108,7 +106,14 @@ fn read_fields(report: &[u8], at: usize, count: usize, numbers: &mut [u64; NUMBE
 }
 
 // A line for each server or queue of a kind, from a position on.
-fn print_all(report: &[u8], at: usize, letters: &[u8], things: usize, count: usize) -> bool
+fn print_all(
+    rt: &impl Print,
+    report: &[u8],
+    at: usize,
+    letters: &[u8],
+    things: usize,
+    count: usize,
+) -> io::Result<()>
     requires letters_len_bound { length letters.now ≤ letter_room }
     requires count_bound { count ≤ SERVER }
 {
@@ -119,20 +124,24 @@ fn print_all(report: &[u8], at: usize, letters: &[u8], things: usize, count: usi
         k += 1;
         numbers[0] = k as u64;
         next = read_fields(report, next, count, &mut numbers);
-        if !print_line(letters, &numbers[..count + 1]) {
-            return false;
-        }
+        print_line(rt, letters, &numbers[..count + 1])?;
     }
-    true
+    Ok(())
 }
 
 // Clock, made and ended begin the report, and the living follow the queues.
-fn print_report(m: Model, outcome: Outcome, report: &[u8]) -> bool {
+fn print_report(
+    rt: &impl Print,
+    m: Model,
+    outcome: Outcome,
+    report: &[u8],
+) -> io::Result<()> {
     let facilities = skip(report, 0, HEAD);
     let storages = skip_all(report, facilities, m.facilities, SERVER);
     let queues = skip_all(report, storages, m.storages, SERVER);
     let living = number_at(report, skip_all(report, queues, m.queues, QUEUE)).value;
-    if !print_line(
+    print_line(
+        rt,
         b"end ",
         &[
             outcome.end,
@@ -141,16 +150,10 @@ fn print_report(m: Model, outcome: Outcome, report: &[u8]) -> bool {
             outcome.ended,
             living,
         ],
-    ) {
-        return false;
-    }
-    if !print_all(report, facilities, b"f ", m.facilities, SERVER) {
-        return false;
-    }
-    if !print_all(report, storages, b"s ", m.storages, SERVER) {
-        return false;
-    }
-    print_all(report, queues, b"q ", m.queues, QUEUE)
+    )?;
+    print_all(rt, report, facilities, b"f ", m.facilities, SERVER)?;
+    print_all(rt, report, storages, b"s ", m.storages, SERVER)?;
+    print_all(rt, report, queues, b"q ", m.queues, QUEUE)
 }
 
 // How many servers and queues an accepted model has.
@@ -173,14 +176,13 @@ fn header(model: &[u8], tape: &[u8]) -> Model
 }
 
 pub fn print_accepted(
+    rt: &impl Print,
     model: &[u8],
     tape: &[u8],
     outcome: Outcome,
     trace: &[u8],
     report: &[u8],
-) -> bool {
-    if !print_records(trace) {
-        return false;
-    }
-    print_report(header(model, tape), outcome, report)
+) -> io::Result<()> {
+    print_records(rt, trace)?;
+    print_report(rt, header(model, tape), outcome, report)
 }

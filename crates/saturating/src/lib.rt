@@ -1,4 +1,7 @@
 // Sums and differences that never trap: a sum stops at the largest number, a difference at 0.
+
+#![tactic(auto)]
+
 ghost use Rattle.std.specs.Prelude.{◌≡◌, ◌+◌, ◌-◌, min};
 ghost use Rattle.layout.specs.All.{most32, most64};
 

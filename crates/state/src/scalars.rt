@@ -13,7 +13,7 @@ pub const NO_RECORD: u32 = 2;
 
 // What a turn hands on beside the buffers. `moving` is the row of the moving transaction, or `NOBODY`; `used` counts the bytes of
 // trace; `note` says which record the last block writes: `ENTERED`, `WAITS` or `NO_RECORD`.
-#[derive(Drop)]
+#[derive(Clone, Copy)]
 pub struct Scalars {
     pub counter: u32,
     pub moving: u32,

@@ -4,7 +4,6 @@ use lib.Ieee.{Float}
 use Rattle.machine.specs.Limits as Machine
 use Rattle.codec.specs.Answers.{cursor_at}
 use Rattle.codec.proofs.Fields.{field-reads, drop_past}
-use Rattle.floats.specs.Limits.{max_time}
 use Rattle.streams.specs.declared.Started.{Started}
 use Rattle.streams.specs.declared.Started.TheVariants.{State, Refused}
 use Rattle.streams.specs.Stream.{Inside, last_stream, start_of, beginning as start_state}

@@ -1,6 +1,8 @@
 // Tapes from distributions (document 02, item 4): definitions (specs/), and that a tape made is what they say and is accepted (proofs/).
 // The code is crate `tapes`; here stand the types that both name.
 
+#![tactic(auto)]
+
 // "a fixed time, a mean with a half-width, or a curve through points": of a curve, the index of its
 // first double among those that are held beside it.
 #[derive(Drop)]

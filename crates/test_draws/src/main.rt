@@ -1,5 +1,7 @@
 // Draws from streams and prints what comes: the published check, starts and refusals, steps of states at the ends of their range.
-use libc::STDOUT_FILENO;
+#![tactic(auto)]
+
+use std::io;
 use streams::Started;
 
 const PUBLISHED_STEPS: u32 = 10_000;
@@ -16,40 +18,36 @@ const BEHIND_MODULUS: u32 = 2_147_483_648;
 
 const LARGEST: u32 = 4_294_967_295;
 
-fn print_line(n: u32) {
-    io::print_decimal(STDOUT_FILENO, n as u64);
-    io::write_all(STDOUT_FILENO, b"\n");
+fn print_line(rt: &impl Print, n: u32) -> io::Result<()> {
+    println!(rt; "{n}")
 }
 
 // A stream's start and its first three draws; or the refusal.
-fn print_stream(stream: u32) {
+fn print_stream(rt: &impl Print, stream: u32) -> io::Result<()> {
     match streams::start(stream) {
-        Started::Refused(n) => {
-            io::write_all(STDOUT_FILENO, b"refused ");
-            print_line(n);
-        }
+        Started::Refused(n) => println!(rt; "refused {n}"),
         Started::State(first) => {
-            print_line(first);
+            print_line(rt, first)?;
             let second = streams::step(first);
-            print_line(second);
+            print_line(rt, second)?;
             let third = streams::step(second);
-            print_line(third);
-            print_line(streams::step(third));
+            print_line(rt, third)?;
+            print_line(rt, streams::step(third))
         }
     }
 }
 
-fn main() {
+fn main(rt: HostRuntime) -> io::Result<()> {
     // "1,043,618,065 after 10,000 steps from 1"
-    print_line(streams::advance(1, PUBLISHED_STEPS));
-    print_stream(0);
-    print_stream(1);
-    print_stream(LAST_STREAM);
-    print_stream(NO_STREAM);
-    print_stream(LARGEST);
-    print_line(streams::step(0));
-    print_line(streams::step(LAST_STATE));
-    print_line(streams::step(MODULUS));
-    print_line(streams::step(BEHIND_MODULUS));
-    print_line(streams::step(LARGEST));
+    print_line(&rt, streams::advance(1, PUBLISHED_STEPS))?;
+    print_stream(&rt, 0)?;
+    print_stream(&rt, 1)?;
+    print_stream(&rt, LAST_STREAM)?;
+    print_stream(&rt, NO_STREAM)?;
+    print_stream(&rt, LARGEST)?;
+    print_line(&rt, streams::step(0))?;
+    print_line(&rt, streams::step(LAST_STATE))?;
+    print_line(&rt, streams::step(MODULUS))?;
+    print_line(&rt, streams::step(BEHIND_MODULUS))?;
+    print_line(&rt, streams::step(LARGEST))
 }

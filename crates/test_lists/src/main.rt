@@ -1,10 +1,12 @@
 // Runs the lists on a buffer that is full of stale numbers and writes the transactions' numbers in the order in which they are
 // taken; then a number past the 16,384th, which must be as it was.
+#![tactic(auto)]
 
 ghost use Rattle.machine.specs.All.{◌<◌};
 ghost use Rattle.rows_laws.specs.All.{list_count, priority_end, Room};
 
 use rows::{FEL, HEADS, NUMBER, REL, ROWS, SERIAL, TIME};
+use std::io;
 
 // More than the layout needs.
 const LENT: usize = 16_400;
@@ -82,13 +84,12 @@ fn leave_later(w: &mut [u32]) -> u32
     number
 }
 
-fn show(number: u32) {
-    io::print_decimal(1, number as u64);
-    io::write_all(1, b"\n");
+fn show(rt: &impl Print, number: u32) -> io::Result<()> {
+    println!(rt; "{number}")
 }
 
 // Writes all of list p, first to last.
-fn drain(w: &mut [u32], p: u32)
+fn drain(rt: &impl Print, w: &mut [u32], p: u32) -> io::Result<()>
     requires room { Room w.old }
     requires p_lt_list_count { p < list_count }
 {
@@ -96,30 +97,32 @@ fn drain(w: &mut [u32], p: u32)
     while i < ROWS {
         let number = leave(w, p);
         if number == 0 {
-            return;
+            return Ok(());
         }
-        show(number);
+        show(rt, number)?;
         i += 1;
     }
+    Ok(())
 }
 
 // Writes all of the FEL.
-fn drain_later(w: &mut [u32])
+fn drain_later(rt: &impl Print, w: &mut [u32]) -> io::Result<()>
     requires { Room w.old }
 {
     let mut i: u32 = 0;
     while i < ROWS {
         let number = leave_later(w);
         if number == 0 {
-            return;
+            return Ok(());
         }
-        show(number);
+        show(rt, number)?;
         i += 1;
     }
+    Ok(())
 }
 
 // REL by priority, then serial: 5 2 4 1 3.
-fn ready(w: &mut [u32])
+fn ready(rt: &impl Print, w: &mut [u32]) -> io::Result<()>
     requires { Room w.old }
 {
     enter(w, REL, 1, 0);
@@ -127,7 +130,7 @@ fn ready(w: &mut [u32])
     enter(w, REL, 3, 0);
     enter(w, REL, 4, 5);
     enter(w, REL, 5, 9);
-    drain(w, REL);
+    drain(rt, w, REL)
 }
 
 // The FEL by time first; those of time 10 arrive on REL: 8 7, then 9 6 are left.
@@ -142,19 +145,19 @@ fn future(w: &mut [u32])
 }
 
 // A queue of three whose first is woken: 2, then 1 3.
-fn queue(w: &mut [u32])
+fn queue(rt: &impl Print, w: &mut [u32]) -> io::Result<()>
     requires { Room w.old }
 {
     enter(w, QL, 1, 0);
     enter(w, QL, 2, 1);
     enter(w, QL, 3, 0);
     rows::wake::wake_first(w, QL);
-    drain(w, REL);
-    drain(w, QL);
+    drain(rt, w, REL)?;
+    drain(rt, w, QL)
 }
 
 // The second of a queue leaves, wherever it stands: 1 3 are left.
-fn middle(w: &mut [u32])
+fn middle(rt: &impl Print, w: &mut [u32]) -> io::Result<()>
     requires { Room w.old }
 {
     enter(w, QL, 1, 0);
@@ -163,27 +166,27 @@ fn middle(w: &mut [u32])
     let second = rows::wake::after(w, QL_HEAD);
     let k = rows::cells::load(w, second);
     if k >= ROWS {
-        return;
+        return Ok(());
     }
     rows::lists::remove(w, QL, k);
     rows::make::free_row(w, k);
-    drain(w, QL);
+    drain(rt, w, QL)
 }
 
-fn exercise(w: &mut [u32])
+fn exercise(rt: &impl Print, w: &mut [u32]) -> io::Result<()>
     requires { Room w.old }
 {
     rows::make::initialise(w);
-    ready(w);
+    ready(rt, w)?;
     future(w);
-    drain(w, REL);
-    drain_later(w);
-    queue(w);
-    middle(w);
+    drain(rt, w, REL)?;
+    drain_later(rt, w)?;
+    queue(rt, w)?;
+    middle(rt, w)
 }
 
-fn main() {
+fn main(rt: HostRuntime) -> io::Result<()> {
     let mut w: [u32; LENT] = [77; LENT];
-    exercise(&mut w);
-    show(w[LENT - 1]);
+    exercise(&rt, &mut w)?;
+    show(&rt, w[LENT - 1])
 }

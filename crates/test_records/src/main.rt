@@ -1,9 +1,11 @@
 // Runs the codec: the paper's numbers as bytes and back, and a thousand records there and back.
+#![tactic(auto)]
+
 ghost use Rattle.machine.specs.All.{◌<◌};
 
 use codec::Read;
 use constants::Model;
-use libc::STDOUT_FILENO;
+use std::io;
 use trace::{Reading, Record, Written};
 
 const RECORDS: u64 = 1000;
@@ -18,98 +20,78 @@ const BLOCKS: u64 = Model::MAX_BLOCKS as u64;
 // the largest number of one group
 const ONE_GROUP: u64 = 127;
 
-fn print(text: &[u8]) {
-    io::write_all(STDOUT_FILENO, text);
-}
+const TRACE_BYTES: usize = 65_536;
 
-fn print_byte(b: u8) {
-    print(b" ");
-    io::print_hex(STDOUT_FILENO, b as u64, 2);
+fn print_byte(rt: &impl Print, b: u8) -> io::Result<()> {
+    print!(rt; " {b:02x}")
 }
 
 // The bytes of a slice in hexadecimal.
-fn print_bytes(s: &[u8]) {
-    let mut i = 0;
-    while i < s.len() {
-        print_byte(s[i]);
-        i += 1;
+fn print_bytes(rt: &impl Print, s: &[u8]) -> io::Result<()> {
+    for b in s {
+        print_byte(rt, *b)?;
     }
+    Ok(())
 }
 
 // A number and a word, on a line.
-fn print_count(n: usize, text: &[u8]) {
-    io::print_decimal(STDOUT_FILENO, n as u64);
-    print(text);
-    print(b"\n");
+fn print_count(rt: &impl Print, n: usize, text: &str) -> io::Result<()> {
+    println!(rt; "{n}{text}")
 }
 
 // A number and its bytes.
-fn print_written(v: u64) {
-    io::print_decimal(STDOUT_FILENO, v);
+fn print_written(rt: &impl Print, v: u64) -> io::Result<()> {
+    print!(rt; "{v}")?;
     let mut bytes = [0u8; 9];
     let len = codec::write_number(&mut bytes, 0, v);
-    print_bytes(&bytes[..len]);
-    print(b"\n");
+    print_bytes(rt, &bytes[..len])?;
+    println!(rt)
 }
 
 // What reading a number of at most `most` at the front of these bytes answers.
-fn print_read(s: &[u8], most: u64) {
-    print_answer(codec::read_number(s, 0, most));
-    print_bytes(s);
-    print(b"\n");
+fn print_read(rt: &impl Print, s: &[u8], most: u64) -> io::Result<()> {
+    print_answer(rt, codec::read_number(s, 0, most))?;
+    print_bytes(rt, s)?;
+    println!(rt)
 }
 
-fn print_answer(answer: Read) {
+fn print_answer(rt: &impl Print, answer: Read) -> io::Result<()> {
     match answer {
-        Read::Number(v, _) => {
-            io::print_decimal(STDOUT_FILENO, v);
-        }
-        Read::Refused => {
-            print(b"refused");
-        }
+        Read::Number(v, _) => print!(rt; "{v}"),
+        Read::Refused => print!(rt; "refused"),
     }
 }
 
 // What the reader answers at the front of these bytes.
-fn print_record(s: &[u8]) {
-    print_reading(trace::read_record(s, 0));
-    print_bytes(s);
-    print(b"\n");
+fn print_record(rt: &impl Print, s: &[u8]) -> io::Result<()> {
+    print_reading(rt, trace::read_record(s, 0))?;
+    print_bytes(rt, s)?;
+    println!(rt)
 }
 
-fn print_reading(answer: Reading) {
+fn print_reading(rt: &impl Print, answer: Reading) -> io::Result<()> {
     match answer {
         Reading::Taken(r, _) => {
-            print(b"clock ");
-            io::print_decimal(STDOUT_FILENO, r.clock);
+            let clock = r.clock;
+            print!(rt; "clock {clock}")
         }
-        Reading::Refused(n) => {
-            print(b"refused ");
-            io::print_decimal(STDOUT_FILENO, n as u64);
-        }
-        Reading::NoMore => {
-            print(b"no more");
-        }
+        Reading::Refused(n) => print!(rt; "refused {n}"),
+        Reading::NoMore => print!(rt; "no more"),
     }
 }
 
 // What the writer answers to a record at this clock, with the largest of all else and room for it.
-fn print_largest(clock: u64) {
-    io::print_decimal(STDOUT_FILENO, clock);
+fn print_largest(rt: &impl Print, clock: u64) -> io::Result<()> {
+    print!(rt; "{clock}")?;
     let mut bytes = [0u8; Model::RECORD_ROOM];
     match trace::write_record(&mut bytes, clock, Model::MAX_TRANSACTION, BLOCKS, 1) {
         Written::Bytes(n) => {
-            print(b" in ");
-            io::print_decimal(STDOUT_FILENO, n as u64);
-            print(b" bytes");
-            print_bytes(&bytes);
+            print!(rt; " in {n} bytes")?;
+            print_bytes(rt, &bytes)?;
         }
-        Written::Refused(n) => {
-            print(b" refused ");
-            io::print_decimal(STDOUT_FILENO, n as u64);
-        }
+        Written::Refused(n) => print!(rt; " refused {n}")?,
     }
-    print(b"\n");
+    println!(rt)
 }
 
 // The i-th record of the test, within the ranges.
@@ -170,10 +152,8 @@ fn take(trace: &[u8], at: usize, i: u64) -> usize
 
 fn write_all(trace: &mut [u8]) -> usize {
     let mut used = 0;
-    let mut i = 0;
-    while i < RECORDS {
+    for i in 0..RECORDS {
         used = put(trace, used, i);
-        i += 1;
     }
     used
 }
@@ -181,84 +161,79 @@ fn write_all(trace: &mut [u8]) -> usize {
 // The position after the thousand records, if each reads back as it was written; else 0.
 fn read_all(trace: &[u8]) -> usize {
     let mut at = 0;
-    let mut i = 0;
-    while i < RECORDS {
+    for i in 0..RECORDS {
         at = take(trace, at, i);
         if at == 0 {
             return 0;
         }
-        i += 1;
     }
     at
 }
 
 // Whether the reader has no more at a position.
-fn print_end(trace: &[u8], at: usize) {
+fn print_end(rt: &impl Print, trace: &[u8], at: usize) -> io::Result<()> {
     match trace::read_record(trace, at) {
-        Reading::NoMore => {
-            print(b"no more\n");
-        }
-        _ => {
-            print(b"more\n");
-        }
+        Reading::NoMore => println!(rt; "no more"),
+        _ => println!(rt; "more"),
     }
 }
 
-fn print_numbers() {
-    print_written(0);
-    print_written(ONE_GROUP);
-    print_written(ONE_GROUP + 1);
-    print_written(Model::MAX_NUMBER);
-    print_written(Model::FIVE_GROUPS);
-    print_written(Model::MAX_REPORT_NUMBER);
+fn print_numbers(rt: &impl Print) -> io::Result<()> {
+    print_written(rt, 0)?;
+    print_written(rt, ONE_GROUP)?;
+    print_written(rt, ONE_GROUP + 1)?;
+    print_written(rt, Model::MAX_NUMBER)?;
+    print_written(rt, Model::FIVE_GROUPS)?;
+    print_written(rt, Model::MAX_REPORT_NUMBER)
 }
 
 // Numbers of a model.
-fn print_readings() {
-    print_read(b"\x7f", Model::MAX_NUMBER);
-    print_read(b"\x81\x00", Model::MAX_NUMBER);
-    print_read(b"\x8f\xff\xff\xff\x7f", Model::MAX_NUMBER);
-    print_read(b"\x80\x01", Model::MAX_NUMBER);
-    print_read(b"\x90\x80\x80\x80\x00", Model::MAX_NUMBER);
-    print_read(b"\x81\x80\x80\x80\x80\x00", Model::MAX_NUMBER);
-    print_read(b"\x81", Model::MAX_NUMBER);
+fn print_readings(rt: &impl Print) -> io::Result<()> {
+    print_read(rt, b"\x7f", Model::MAX_NUMBER)?;
+    print_read(rt, b"\x81\x00", Model::MAX_NUMBER)?;
+    print_read(rt, b"\x8f\xff\xff\xff\x7f", Model::MAX_NUMBER)?;
+    print_read(rt, b"\x80\x01", Model::MAX_NUMBER)?;
+    print_read(rt, b"\x90\x80\x80\x80\x00", Model::MAX_NUMBER)?;
+    print_read(rt, b"\x81\x80\x80\x80\x80\x00", Model::MAX_NUMBER)?;
+    print_read(rt, b"\x81", Model::MAX_NUMBER)
 }
 
 // Numbers of a tape or a trace.
-fn print_wider_readings() {
-    print_read(b"\x90\x80\x80\x80\x00", Model::FIVE_GROUPS);
-    print_read(b"\xff\xff\xff\xff\x7f", Model::FIVE_GROUPS);
-    print_read(b"\x81\x80\x80\x80\x80\x00", Model::FIVE_GROUPS);
+fn print_wider_readings(rt: &impl Print) -> io::Result<()> {
+    print_read(rt, b"\x90\x80\x80\x80\x00", Model::FIVE_GROUPS)?;
+    print_read(rt, b"\xff\xff\xff\xff\x7f", Model::FIVE_GROUPS)?;
+    print_read(rt, b"\x81\x80\x80\x80\x80\x00", Model::FIVE_GROUPS)
 }
 
 // Records with a clock at its limit, one past it, the largest number and one more; and 2 to the 32 as a transaction.
-fn print_limits() {
-    print_record(b"\xf7\x9a\xe5\x80\x00\x01\x01\x00");
-    print_record(b"\xf7\x9a\xe5\x80\x01\x01\x01\x00");
-    print_record(b"\xff\xff\xff\xff\x7f\x01\x01\x00");
-    print_record(b"\x81\x80\x80\x80\x80\x00\x01\x01\x00");
-    print_record(b"\x00\x90\x80\x80\x80\x00\x01\x00");
-    print_largest(Model::MAX_CLOCK);
-    print_largest(Model::MAX_CLOCK + 1);
+fn print_limits(rt: &impl Print) -> io::Result<()> {
+    print_record(rt, b"\xf7\x9a\xe5\x80\x00\x01\x01\x00")?;
+    print_record(rt, b"\xf7\x9a\xe5\x80\x01\x01\x01\x00")?;
+    print_record(rt, b"\xff\xff\xff\xff\x7f\x01\x01\x00")?;
+    print_record(rt, b"\x81\x80\x80\x80\x80\x00\x01\x01\x00")?;
+    print_record(rt, b"\x00\x90\x80\x80\x80\x00\x01\x00")?;
+    print_largest(rt, Model::MAX_CLOCK)?;
+    print_largest(rt, Model::MAX_CLOCK + 1)
 }
 
-fn print_trace(trace: &[u8]) {
+fn print_trace(rt: &impl Print, trace: &[u8]) -> io::Result<()> {
     let at = read_all(trace);
-    print_count(at, b" bytes read back");
-    print_end(trace, at);
-    io::print_decimal(STDOUT_FILENO, trace::count_low(trace));
-    print(b" of them below 80\n");
+    print_count(rt, at, " bytes read back")?;
+    print_end(rt, trace, at)?;
+    let low = trace::count_low(trace);
+    println!(rt; "{low} of them below 80")
 }
 
-fn main() {
-    print_numbers();
-    print_readings();
-    print_wider_readings();
-    print_limits();
-    let mut trace = io::large_buffer();
+fn main(rt: HostRuntime) -> io::Result<()> {
+    print_numbers(&rt)?;
+    print_readings(&rt)?;
+    print_wider_readings(&rt)?;
+    print_limits(&rt)?;
+    let mut trace = [0u8; TRACE_BYTES];
     let used = write_all(&mut trace);
-    print_count(used, b" bytes written");
+    print_count(&rt, used, " bytes written")?;
     if used <= trace.len() {
-        print_trace(&trace[..used]);
+        print_trace(&rt, &trace[..used])?;
     }
+    Ok(())
 }

@@ -2,10 +2,14 @@
 // for one that is accepted, else the first question that is answered "no".
 //
 // A case is a line: its name, a colon, the bytes of the model in hexadecimal, a slash, those of the tape.
+#![tactic(auto)]
+
 ghost use Rattle.machine.specs.All.{◌<◌, ◌≤◌};
+ghost use Rattle.std.specs.Io.{ReadsAtMost};
 ghost use Rattle.std.specs.Prelude.{length};
 
-use libc::{STDIN_FILENO, STDOUT_FILENO};
+use std::io;
+use std::io::Read;
 
 const CASES_BYTES: usize = 16_384;
 
@@ -14,6 +18,21 @@ const MOST_BYTES: usize = 256;
 const WORK_NUMBERS: usize = 16_384;
 
 const REPORT_BYTES: usize = 10_240;
+
+// Reads until the buffer is full or the input ends; answers how many bytes.
+fn read_full(input: &mut impl Read, buffer: &mut [u8]) -> io::Result<usize>
+    ensures { ReadsAtMost result buffer.new }
+{
+    let mut done = 0;
+    while done < buffer.len() {
+        let n = input.read(&mut buffer[done..])?;
+        if n == 0 {
+            break;
+        }
+        done += n;
+    }
+    Ok(done)
+}
 
 // Where a mark stands, at a position or behind it; the length where it does not.
 fn find(s: &[u8], at: usize, mark: u8) -> usize
@@ -49,7 +68,7 @@ fn byte(high: u8, low: u8) -> u8 {
 
 // The bytes that a text gives in hexadecimal, as many as there is room for; answers how many.
 fn bytes_of(text: &[u8], out: &mut [u8]) -> usize
-    ensures* { do ⌜ result ≤ (← (⟦out.len()⟧).exit) ⌝ }
+    ensures { result ≤ length out.new }
 {
     let mut n = 0;
     while n < text.len() / 2 {
@@ -62,100 +81,91 @@ fn bytes_of(text: &[u8], out: &mut [u8]) -> usize
     n
 }
 
-fn answer(model: &[u8], tape: &[u8]) {
-    io::print_decimal(
-        STDOUT_FILENO,
-        decode::validate(model, tape, WORK_NUMBERS, REPORT_BYTES) as u64,
-    );
+fn answer(rt: &impl Print, model: &[u8], tape: &[u8]) -> io::Result<()> {
+    let n = decode::validate(model, tape, WORK_NUMBERS, REPORT_BYTES);
+    print!(rt; "{n}")
 }
 
-fn show(name: &[u8], model_text: &[u8], tape_text: &[u8]) {
+fn show(
+    rt: &impl Print,
+    name: &[u8],
+    model_text: &[u8],
+    tape_text: &[u8],
+) -> io::Result<()> {
     let mut model = [0u8; MOST_BYTES];
     let mut tape = [0u8; MOST_BYTES];
     let m = bytes_of(model_text, &mut model);
     let t = bytes_of(tape_text, &mut tape);
-    answer(&model[..m], &tape[..t]);
-    io::write_all(STDOUT_FILENO, b" ");
-    io::write_all(STDOUT_FILENO, name);
-    io::write_all(STDOUT_FILENO, b"\n");
+    answer(rt, &model[..m], &tape[..t])?;
+    print!(rt; " ")?;
+    rt.write_all(name)?;
+    println!(rt)
 }
 
-fn show_line(line: &[u8]) {
+fn show_line(rt: &impl Print, line: &[u8]) -> io::Result<()> {
     let colon = find(line, 0, b':');
     if colon >= line.len() {
-        return;
+        return Ok(());
     }
     let slash = find(line, colon + 1, b'/');
     if slash >= line.len() {
-        return;
+        return Ok(());
     }
-    show(&line[..colon], &line[colon + 1..slash], &line[slash + 1..]);
+    show(rt, &line[..colon], &line[colon + 1..slash], &line[slash + 1..])
 }
 
-fn show_all(cases: &[u8]) {
+fn show_all(rt: &impl Print, cases: &[u8]) -> io::Result<()> {
     let mut at = 0;
     while at < cases.len() {
         let end = find(cases, at, b'\n');
         if end >= cases.len() {
-            return;
+            return Ok(());
         }
-        show_line(&cases[at..end]);
+        show_line(rt, &cases[at..end])?;
         at = end + 1;
     }
+    Ok(())
 }
 
-fn cut_models(model: &[u8], tape: &[u8]) {
-    let mut n = 0;
-    while n < model.len() {
-        answer(&model[..n], tape);
-        n += 1;
+fn cut_models(rt: &impl Print, model: &[u8], tape: &[u8]) -> io::Result<()> {
+    for n in 0..model.len() {
+        answer(rt, &model[..n], tape)?;
     }
+    Ok(())
 }
 
-fn cut_tapes(model: &[u8], tape: &[u8]) {
-    let mut n = 0;
-    while n < tape.len() {
-        answer(model, &tape[..n]);
-        n += 1;
+fn cut_tapes(rt: &impl Print, model: &[u8], tape: &[u8]) -> io::Result<()> {
+    for n in 0..tape.len() {
+        answer(rt, model, &tape[..n])?;
     }
+    Ok(())
 }
 
 // A good model cut off after each of its bytes, and its tape too.
-fn truncated(model: &[u8], tape: &[u8]) {
-    cut_models(model, tape);
-    io::write_all(STDOUT_FILENO, b" model cut off\n");
-    cut_tapes(model, tape);
-    io::write_all(STDOUT_FILENO, b" tape cut off\n");
+fn truncated(rt: &impl Print, model: &[u8], tape: &[u8]) -> io::Result<()> {
+    cut_models(rt, model, tape)?;
+    println!(rt; " model cut off")?;
+    cut_tapes(rt, model, tape)?;
+    println!(rt; " tape cut off")
 }
 
 // The two buffers, asked before any byte is read.
-fn buffers() {
-    io::print_decimal(
-        STDOUT_FILENO,
-        decode::validate(b"", b"", WORK_NUMBERS - 1, REPORT_BYTES) as u64,
-    );
-    io::print_decimal(
-        STDOUT_FILENO,
-        decode::validate(b"", b"", WORK_NUMBERS - 1, REPORT_BYTES - 1) as u64,
-    );
-    io::print_decimal(
-        STDOUT_FILENO,
-        decode::validate(b"", b"", WORK_NUMBERS, REPORT_BYTES - 1) as u64,
-    );
-    io::print_decimal(
-        STDOUT_FILENO,
-        decode::validate(b"", b"", WORK_NUMBERS, REPORT_BYTES) as u64,
-    );
-    io::write_all(STDOUT_FILENO, b" buffers\n");
+fn buffers(rt: &impl Print) -> io::Result<()> {
+    let short_work = decode::validate(b"", b"", WORK_NUMBERS - 1, REPORT_BYTES);
+    let both_short = decode::validate(b"", b"", WORK_NUMBERS - 1, REPORT_BYTES - 1);
+    let short_report = decode::validate(b"", b"", WORK_NUMBERS, REPORT_BYTES - 1);
+    let neither = decode::validate(b"", b"", WORK_NUMBERS, REPORT_BYTES);
+    println!(rt; "{short_work}{both_short}{short_report}{neither} buffers")
 }
 
-fn main() {
+fn main(rt: HostRuntime) -> io::Result<()> {
     let mut cases = [0u8; CASES_BYTES];
-    let n = io::read_full(STDIN_FILENO, &mut cases);
-    buffers();
-    show_all(&cases[..n]);
+    let n = read_full(&mut rt.reader(), &mut cases)?;
+    buffers(&rt)?;
+    show_all(&rt, &cases[..n])?;
     truncated(
+        &rt,
         b"\x01\x01\x01\x03\x01\x02\x01\x00\x00\x05\x02\x00\x09\x01\x01\x04\x03\x01\x05\x07\x01\x01\x00\x06\x01\x02\x02\x01\x07\x01\x02\x0a\x05\x01\x03\x00\x02\x07\x03\x01\x03\x00",
         b"\x02\x03\xbd\x84\x40",
-    );
+    )
 }

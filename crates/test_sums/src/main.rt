@@ -1,6 +1,8 @@
 // Evaluates values that a model could hold, and writes what each is worth: wrapping, brackets, comparisons, mentions.
+#![tactic(auto)]
+
 use layout::{CAPACITIES, CONTENT, ENTRIES, IN_USE, TABLES, TALLY, VALUE_WIDTH, VALUES};
-use libc::STDOUT_FILENO;
+use std::io;
 
 // The largest number with a sign, and the bits of -9.
 const MOST: u32 = 2_147_483_647;
@@ -64,47 +66,57 @@ fn put_others(tables: &mut [u32]) {
 }
 
 // A number and a line end.
-fn show(z: i32) {
+fn show(rt: &impl Print, z: i32) -> io::Result<()> {
     let n = evaluation::bits(z) as u64;
     if n < SIGN {
-        io::print_decimal(STDOUT_FILENO, n);
+        println!(rt; "{n}")
     } else {
-        io::write_all(STDOUT_FILENO, b"-");
-        io::print_decimal(STDOUT_FILENO, WORDS - n);
+        let below = WORDS - n;
+        println!(rt; "-{below}")
     }
-    io::write_all(STDOUT_FILENO, b"\n");
 }
 
 // Value k, as a block's term names it: the term stands at position 0.
-fn show_value(tables: &mut [u32; TABLES], tally: &[u64; TALLY], k: u32) {
+fn show_value(
+    rt: &impl Print,
+    tables: &mut [u32; TABLES],
+    tally: &[u64; TALLY],
+    k: u32,
+) -> io::Result<()> {
     let p = [5, 0, 0, MINUS_NINE];
     let named = [9, k];
     put(tables, 0, &named);
-    show(evaluation::term_at(tables, tally, 8, 7, &p, 0));
+    show(rt, evaluation::term_at(tables, tally, 8, 7, &p, 0))
 }
 
 // Value 1 < 0, as a WAITIF has it: at position 0.
-fn show_comparison(tables: &mut [u32; TABLES], tally: &[u64; TALLY]) {
+fn show_comparison(
+    rt: &impl Print,
+    tables: &mut [u32; TABLES],
+    tally: &[u64; TALLY],
+) -> io::Result<()> {
     let p = [5, 0, 0, 0];
     let named = [9, 0, 3, 0, 0];
     put(tables, 0, &named);
     if evaluation::compare_at(tables, tally, 8, 7, &p, 0) {
-        show(1);
+        show(rt, 1)
     } else {
-        show(0);
+        show(rt, 0)
     }
 }
 
-fn show_all(tables: &mut [u32; TABLES], tally: &[u64; TALLY]) {
-    let mut k: u32 = 0;
-    while k < 8 {
-        show_value(tables, tally, k);
-        k += 1;
+fn show_all(
+    rt: &impl Print,
+    tables: &mut [u32; TABLES],
+    tally: &[u64; TALLY],
+) -> io::Result<()> {
+    for k in 0..8 {
+        show_value(rt, tables, tally, k)?;
     }
-    show_comparison(tables, tally);
+    show_comparison(rt, tables, tally)
 }
 
-fn main() {
+fn main(rt: HostRuntime) -> io::Result<()> {
     let mut tables = [0u32; TABLES];
     let mut tally = [0u64; TALLY];
     tables[CAPACITIES + 1] = 5;
@@ -114,5 +126,5 @@ fn main() {
     tally[CONTENT] = 4;
     put_sums(&mut tables);
     put_others(&mut tables);
-    show_all(&mut tables, &tally);
+    show_all(&rt, &mut tables, &tally)
 }

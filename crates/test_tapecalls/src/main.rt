@@ -1,81 +1,68 @@
 // Calls of the tape maker at the limits of its rules: answers, lengths and the twelve bytes that were lent.
-use libc::STDOUT_FILENO;
+#![tactic(auto)]
+
+use std::io;
 use tapes_laws::Made;
 
-fn print_byte(b: u8) {
-    io::write_all(STDOUT_FILENO, b" ");
-    io::print_decimal(STDOUT_FILENO, b as u64);
+fn print_bytes(rt: &impl Print, tape: &[u8; 12]) -> io::Result<()> {
+    for b in tape {
+        print!(rt; " {b}")?;
+    }
+    println!(rt)
 }
 
-fn print_bytes(tape: &[u8; 12]) {
-    print_byte(tape[0]);
-    print_byte(tape[1]);
-    print_byte(tape[2]);
-    print_byte(tape[3]);
-    print_byte(tape[4]);
-    print_byte(tape[5]);
-    print_byte(tape[6]);
-    print_byte(tape[7]);
-    print_byte(tape[8]);
-    print_byte(tape[9]);
-    print_byte(tape[10]);
-    print_byte(tape[11]);
-    io::write_all(STDOUT_FILENO, b"\n");
-}
-
-fn print_call(stream: u32, lists: &[u32], numbers: &[f64]) {
+fn print_call(
+    rt: &impl Print,
+    stream: u32,
+    lists: &[u32],
+    numbers: &[f64],
+) -> io::Result<()> {
     let mut tape = [7u8; 12];
     let made = tapes::make(stream, lists, numbers, &mut tape);
     match made {
-        Made::Bytes(n) => {
-            io::write_all(STDOUT_FILENO, b"made ");
-            io::print_decimal(STDOUT_FILENO, n as u64);
-        }
-        Made::Refused(n) => {
-            io::write_all(STDOUT_FILENO, b"refused ");
-            io::print_decimal(STDOUT_FILENO, n as u64);
-        }
+        Made::Bytes(n) => print!(rt; "made {n}")?,
+        Made::Refused(n) => print!(rt; "refused {n}")?,
     }
-    print_bytes(&tape);
+    print_bytes(rt, &tape)
 }
 
 // The largest time, a fraction that is cut, minus zero.
-fn call_1() {
+fn call_1(rt: &impl Print) -> io::Result<()> {
     let lists: [u32; 12] = [0, 1, 0, 0, 0, 1, 1, 0, 0, 1, 2, 0];
     let numbers: [f64; 3] = [1000000.0, 2.75, -0.0];
-    print_call(0, &lists, &numbers);
+    print_call(rt, 0, &lists, &numbers)
 }
 
 // Half equal to mean, at both limits.
-fn call_2() {
+fn call_2(rt: &impl Print) -> io::Result<()> {
     let lists: [u32; 4] = [1, 3, 0, 0];
     let numbers: [f64; 2] = [500000.0, 500000.0];
-    print_call(0, &lists, &numbers);
+    print_call(rt, 0, &lists, &numbers)
 }
 
 // No half: the mean.
-fn call_3() {
+fn call_3(rt: &impl Print) -> io::Result<()> {
     let lists: [u32; 4] = [1, 3, 0, 0];
     let numbers: [f64; 2] = [9.0, 0.0];
-    print_call(511, &lists, &numbers);
+    print_call(rt, 511, &lists, &numbers)
 }
 
 // All times equal.
-fn call_4() {
+fn call_4(rt: &impl Print) -> io::Result<()> {
     let lists: [u32; 4] = [2, 3, 0, 2];
     let numbers: [f64; 4] = [0.0, 5.0, 1.0, 5.0];
-    print_call(0, &lists, &numbers);
+    print_call(rt, 0, &lists, &numbers)
 }
 
 // A curve from 0 to the largest time.
-fn call_5() {
+fn call_5(rt: &impl Print) -> io::Result<()> {
     let lists: [u32; 4] = [2, 3, 0, 2];
     let numbers: [f64; 4] = [0.0, 0.0, 1.0, 1000000.0];
-    print_call(0, &lists, &numbers);
+    print_call(rt, 0, &lists, &numbers)
 }
 
 // Points 1/65,536 apart: the second draw of stream 0 is 8620/65,536.
-fn call_6() {
+fn call_6(rt: &impl Print) -> io::Result<()> {
     let lists: [u32; 4] = [2, 3, 0, 4];
     let numbers: [f64; 8] = [
         0.0,
@@ -87,11 +74,11 @@ fn call_6() {
         1.0,
         1000000.0,
     ];
-    print_call(0, &lists, &numbers);
+    print_call(rt, 0, &lists, &numbers)
 }
 
 // 24 points.
-fn call_7() {
+fn call_7(rt: &impl Print) -> io::Result<()> {
     let lists: [u32; 4] = [2, 4, 0, 24];
     let numbers: [f64; 48] = [
         0.0,
@@ -143,128 +130,128 @@ fn call_7() {
         1.0,
         77.0,
     ];
-    print_call(0, &lists, &numbers);
+    print_call(rt, 0, &lists, &numbers)
 }
 
 // The stream runs on: spread, fixed, curve.
-fn call_8() {
+fn call_8(rt: &impl Print) -> io::Result<()> {
     let lists: [u32; 12] = [1, 3, 0, 0, 0, 2, 2, 0, 2, 2, 3, 3];
     let numbers: [f64; 9] = [12.5, 4.0, 7.0, 0.0, 1.0, 0.5, 3.0, 1.0, 10.0];
-    print_call(0, &lists, &numbers);
+    print_call(rt, 0, &lists, &numbers)
 }
 
 // No lists.
-fn call_9() {
+fn call_9(rt: &impl Print) -> io::Result<()> {
     let lists: [u32; 1] = [0];
     let numbers: [f64; 1] = [1.0];
-    print_call(0, &lists[..0], &numbers);
+    print_call(rt, 0, &lists[..0], &numbers)
 }
 
 // 16 lists of no times need 16 bytes; a seventeenth is refused before the room is asked for.
-fn call_10() {
+fn call_10(rt: &impl Print) -> io::Result<()> {
     let lists: [u32; 64] = [
         0, 0, 0, 0, 0, 0, 0, 0, 0, 0, 0, 0, 0, 0, 0, 0, 0, 0, 0, 0, 0, 0, 0, 0, 0, 0, 0, 0, 0, 0,
         0, 0, 0, 0, 0, 0, 0, 0, 0, 0, 0, 0, 0, 0, 0, 0, 0, 0, 0, 0, 0, 0, 0, 0, 0, 0, 0, 0, 0, 0,
         0, 0, 0, 0,
     ];
     let numbers: [f64; 1] = [1.0];
-    print_call(0, &lists, &numbers);
+    print_call(rt, 0, &lists, &numbers)
 }
 
-fn call_11() {
+fn call_11(rt: &impl Print) -> io::Result<()> {
     let lists: [u32; 68] = [
         0, 0, 0, 0, 0, 0, 0, 0, 0, 0, 0, 0, 0, 0, 0, 0, 0, 0, 0, 0, 0, 0, 0, 0, 0, 0, 0, 0, 0, 0,
         0, 0, 0, 0, 0, 0, 0, 0, 0, 0, 0, 0, 0, 0, 0, 0, 0, 0, 0, 0, 0, 0, 0, 0, 0, 0, 0, 0, 0, 0,
         0, 0, 0, 0, 0, 0, 0, 0,
     ];
     let numbers: [f64; 1] = [1.0];
-    print_call(0, &lists, &numbers);
+    print_call(rt, 0, &lists, &numbers)
 }
 
 // 41 before all.
-fn call_12() {
+fn call_12(rt: &impl Print) -> io::Result<()> {
     let lists: [u32; 4] = [9, 9, 9, 9];
     let numbers: [f64; 1] = [1.0];
-    print_call(512, &lists, &numbers);
+    print_call(rt, 512, &lists, &numbers)
 }
 
 // 42 before 43: 13 bytes are needed and 12 lent.
-fn call_13() {
+fn call_13(rt: &impl Print) -> io::Result<()> {
     let lists: [u32; 4] = [0, 12, 0, 0];
     let numbers: [f64; 1] = [1.0];
-    print_call(0, &lists, &numbers);
+    print_call(rt, 0, &lists, &numbers)
 }
 
-fn call_14() {
+fn call_14(rt: &impl Print) -> io::Result<()> {
     let lists: [u32; 4] = [0, 12, 1, 0];
     let numbers: [f64; 1] = [1.0];
-    print_call(0, &lists, &numbers);
+    print_call(rt, 0, &lists, &numbers)
 }
 
 // Damaged doubles: not a number, infinities, below 0, 1/128, a tenth, above the limit.
-fn call_15() {
+fn call_15(rt: &impl Print) -> io::Result<()> {
     let lists: [u32; 4] = [0, 1, 0, 0];
     let numbers: [f64; 1] = [0.0 / 0.0];
-    print_call(0, &lists, &numbers);
+    print_call(rt, 0, &lists, &numbers)
 }
 
-fn call_16() {
+fn call_16(rt: &impl Print) -> io::Result<()> {
     let lists: [u32; 4] = [0, 1, 0, 0];
     let numbers: [f64; 1] = [1.0 / 0.0];
-    print_call(0, &lists, &numbers);
+    print_call(rt, 0, &lists, &numbers)
 }
 
-fn call_17() {
+fn call_17(rt: &impl Print) -> io::Result<()> {
     let lists: [u32; 4] = [0, 1, 0, 0];
     let numbers: [f64; 1] = [-1.0 / 0.0];
-    print_call(0, &lists, &numbers);
+    print_call(rt, 0, &lists, &numbers)
 }
 
-fn call_18() {
+fn call_18(rt: &impl Print) -> io::Result<()> {
     let lists: [u32; 4] = [0, 1, 0, 0];
     let numbers: [f64; 1] = [-0.015625];
-    print_call(0, &lists, &numbers);
+    print_call(rt, 0, &lists, &numbers)
 }
 
-fn call_19() {
+fn call_19(rt: &impl Print) -> io::Result<()> {
     let lists: [u32; 4] = [0, 1, 0, 0];
     let numbers: [f64; 1] = [0.0078125];
-    print_call(0, &lists, &numbers);
+    print_call(rt, 0, &lists, &numbers)
 }
 
-fn call_20() {
+fn call_20(rt: &impl Print) -> io::Result<()> {
     let lists: [u32; 4] = [0, 1, 0, 0];
     let numbers: [f64; 1] = [0.1];
-    print_call(0, &lists, &numbers);
+    print_call(rt, 0, &lists, &numbers)
 }
 
-fn call_21() {
+fn call_21(rt: &impl Print) -> io::Result<()> {
     let lists: [u32; 4] = [0, 1, 0, 0];
     let numbers: [f64; 1] = [1000000.015625];
-    print_call(0, &lists, &numbers);
+    print_call(rt, 0, &lists, &numbers)
 }
 
 // Half above mean, mean above 500,000.
-fn call_22() {
+fn call_22(rt: &impl Print) -> io::Result<()> {
     let lists: [u32; 4] = [1, 1, 0, 0];
     let numbers: [f64; 2] = [4.0, 4.015625];
-    print_call(0, &lists, &numbers);
+    print_call(rt, 0, &lists, &numbers)
 }
 
-fn call_23() {
+fn call_23(rt: &impl Print) -> io::Result<()> {
     let lists: [u32; 4] = [1, 1, 0, 0];
     let numbers: [f64; 2] = [500000.015625, 1.0];
-    print_call(0, &lists, &numbers);
+    print_call(rt, 0, &lists, &numbers)
 }
 
 // One point, 25 points, u that does not begin at 0, end at 1 or rise, times that fall.
-fn call_24() {
+fn call_24(rt: &impl Print) -> io::Result<()> {
     let lists: [u32; 4] = [2, 1, 0, 1];
     let numbers: [f64; 2] = [0.0, 1.0];
-    print_call(0, &lists, &numbers);
+    print_call(rt, 0, &lists, &numbers)
 }
 
-fn call_25() {
+fn call_25(rt: &impl Print) -> io::Result<()> {
     let lists: [u32; 4] = [2, 1, 0, 25];
     let numbers: [f64; 50] = [
         0.0,
@@ -318,97 +305,97 @@ fn call_25() {
         1.0,
         1.0,
     ];
-    print_call(0, &lists, &numbers);
+    print_call(rt, 0, &lists, &numbers)
 }
 
-fn call_26() {
+fn call_26(rt: &impl Print) -> io::Result<()> {
     let lists: [u32; 4] = [2, 1, 0, 2];
     let numbers: [f64; 4] = [0.5, 1.0, 1.0, 1.0];
-    print_call(0, &lists, &numbers);
+    print_call(rt, 0, &lists, &numbers)
 }
 
-fn call_27() {
+fn call_27(rt: &impl Print) -> io::Result<()> {
     let lists: [u32; 4] = [2, 1, 0, 2];
     let numbers: [f64; 4] = [0.0, 1.0, 0.5, 1.0];
-    print_call(0, &lists, &numbers);
+    print_call(rt, 0, &lists, &numbers)
 }
 
-fn call_28() {
+fn call_28(rt: &impl Print) -> io::Result<()> {
     let lists: [u32; 4] = [2, 1, 0, 3];
     let numbers: [f64; 6] = [0.0, 1.0, 0.0, 1.0, 1.0, 1.0];
-    print_call(0, &lists, &numbers);
+    print_call(rt, 0, &lists, &numbers)
 }
 
-fn call_29() {
+fn call_29(rt: &impl Print) -> io::Result<()> {
     let lists: [u32; 4] = [2, 1, 0, 2];
     let numbers: [f64; 4] = [0.0, 2.0, 1.0, 1.0];
-    print_call(0, &lists, &numbers);
+    print_call(rt, 0, &lists, &numbers)
 }
 
 // Another kind, a count of 65,536, a double past the end, a length of three, points of a fixed time.
-fn call_30() {
+fn call_30(rt: &impl Print) -> io::Result<()> {
     let lists: [u32; 4] = [3, 1, 0, 0];
     let numbers: [f64; 1] = [1.0];
-    print_call(0, &lists, &numbers);
+    print_call(rt, 0, &lists, &numbers)
 }
 
-fn call_31() {
+fn call_31(rt: &impl Print) -> io::Result<()> {
     let lists: [u32; 4] = [0, 65536, 0, 0];
     let numbers: [f64; 1] = [1.0];
-    print_call(0, &lists, &numbers);
+    print_call(rt, 0, &lists, &numbers)
 }
 
-fn call_32() {
+fn call_32(rt: &impl Print) -> io::Result<()> {
     let lists: [u32; 4] = [1, 1, 0, 0];
     let numbers: [f64; 1] = [1.0];
-    print_call(0, &lists, &numbers);
+    print_call(rt, 0, &lists, &numbers)
 }
 
-fn call_33() {
+fn call_33(rt: &impl Print) -> io::Result<()> {
     let lists: [u32; 3] = [0, 1, 0];
     let numbers: [f64; 1] = [1.0];
-    print_call(0, &lists, &numbers);
+    print_call(rt, 0, &lists, &numbers)
 }
 
-fn call_34() {
+fn call_34(rt: &impl Print) -> io::Result<()> {
     let lists: [u32; 4] = [0, 1, 0, 1];
     let numbers: [f64; 1] = [1.0];
-    print_call(0, &lists, &numbers);
+    print_call(rt, 0, &lists, &numbers)
 }
 
-fn main() {
-    call_1();
-    call_2();
-    call_3();
-    call_4();
-    call_5();
-    call_6();
-    call_7();
-    call_8();
-    call_9();
-    call_10();
-    call_11();
-    call_12();
-    call_13();
-    call_14();
-    call_15();
-    call_16();
-    call_17();
-    call_18();
-    call_19();
-    call_20();
-    call_21();
-    call_22();
-    call_23();
-    call_24();
-    call_25();
-    call_26();
-    call_27();
-    call_28();
-    call_29();
-    call_30();
-    call_31();
-    call_32();
-    call_33();
-    call_34();
+fn main(rt: HostRuntime) -> io::Result<()> {
+    call_1(&rt)?;
+    call_2(&rt)?;
+    call_3(&rt)?;
+    call_4(&rt)?;
+    call_5(&rt)?;
+    call_6(&rt)?;
+    call_7(&rt)?;
+    call_8(&rt)?;
+    call_9(&rt)?;
+    call_10(&rt)?;
+    call_11(&rt)?;
+    call_12(&rt)?;
+    call_13(&rt)?;
+    call_14(&rt)?;
+    call_15(&rt)?;
+    call_16(&rt)?;
+    call_17(&rt)?;
+    call_18(&rt)?;
+    call_19(&rt)?;
+    call_20(&rt)?;
+    call_21(&rt)?;
+    call_22(&rt)?;
+    call_23(&rt)?;
+    call_24(&rt)?;
+    call_25(&rt)?;
+    call_26(&rt)?;
+    call_27(&rt)?;
+    call_28(&rt)?;
+    call_29(&rt)?;
+    call_30(&rt)?;
+    call_31(&rt)?;
+    call_32(&rt)?;
+    call_33(&rt)?;
+    call_34(&rt)
 }

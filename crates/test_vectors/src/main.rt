@@ -4,11 +4,14 @@
 //
 // A case: lengths of model and tape in bytes, budget, lengths of work buffer in 32-bit numbers and of trace and report in bytes, each as
 // a seven-bit number; then the bytes of model and tape.
+#![tactic(auto)]
+
 ghost use Rattle.machine.specs.All.{◌<◌};
+ghost use Rattle.std.specs.Io.{ReadsAtMost};
 
 use codec::Read;
 use constants::Model;
-use libc::{STDIN_FILENO, STDOUT_FILENO};
+use std::io;
 
 const CASES_BYTES: usize = 262_144;
 
@@ -23,9 +26,23 @@ const MODULUS: u64 = 4_294_967_291;
 
 const FACTOR: u64 = 263;
 
-fn print_number(n: u64) {
-    io::print_decimal(STDOUT_FILENO, n);
-    io::write_all(STDOUT_FILENO, b" ");
+// Reads until the buffer is full or the input ends; answers how many bytes.
+fn read_full(input: &mut impl io::Read, buffer: &mut [u8]) -> io::Result<usize>
+    ensures { ReadsAtMost result buffer.new }
+{
+    let mut done = 0;
+    while done < buffer.len() {
+        let n = input.read(&mut buffer[done..])?;
+        if n == 0 {
+            break;
+        }
+        done += n;
+    }
+    Ok(done)
+}
+
+fn print_number(rt: &impl Print, n: u64) -> io::Result<()> {
+    print!(rt; "{n} ")
 }
 
 fn wide(b: u8) -> u64
@@ -52,33 +69,37 @@ fn checksum(bytes: &[u8]) -> u64 {
     sum
 }
 
-fn print_results(r: engine::Outcome) {
-    print_number(r.refusal);
-    print_number(r.end);
-    print_number(r.clock);
-    print_number(r.turns);
-    print_number(r.made);
-    print_number(r.ended);
-    print_number(r.trace_bytes);
-    print_number(r.report_bytes);
+fn print_results(rt: &impl Print, r: engine::Outcome) -> io::Result<()> {
+    print_number(rt, r.refusal)?;
+    print_number(rt, r.end)?;
+    print_number(rt, r.clock)?;
+    print_number(rt, r.turns)?;
+    print_number(rt, r.made)?;
+    print_number(rt, r.ended)?;
+    print_number(rt, r.trace_bytes)?;
+    print_number(rt, r.report_bytes)
 }
 
-fn print_checksums(trace: &[u8], report: &[u8]) {
-    print_number(checksum(trace));
-    io::print_decimal(STDOUT_FILENO, checksum(report));
-    io::write_all(STDOUT_FILENO, b"\n");
+fn print_checksums(rt: &impl Print, trace: &[u8], report: &[u8]) -> io::Result<()> {
+    print_number(rt, checksum(trace))?;
+    let sum = checksum(report);
+    println!(rt; "{sum}")
 }
 
 fn run_case(
+    rt: &impl Print,
     model: &[u8],
     tape: &[u8],
     budget: u64,
     work: &mut [u32],
     trace: &mut [u8],
     report: &mut [u8],
-) {
-    print_results(engine::run(model, tape, budget, work, trace, report));
-    print_checksums(trace, report);
+) -> io::Result<()> {
+    print_results(
+        rt,
+        engine::run(model, tape, budget, work, trace, report),
+    )?;
+    print_checksums(rt, trace, report)
 }
 
 // The numbers of a case, and where its model begins; 0 where no case stands.
@@ -137,87 +158,97 @@ fn read_case(cases: &[u8], at: usize) -> Case {
 
 // Lends a case the buffers of its lengths and runs it, if they are long enough.
 fn run_within(
+    rt: &impl Print,
     model: &[u8],
     tape: &[u8],
     case: Case,
     work: &mut [u32],
     trace: &mut [u8],
     report: &mut [u8],
-) -> bool {
+) -> io::Result<bool> {
     let work_len = case.work;
     let trace_len = case.trace;
     let report_len = case.report;
     if work.len() < work_len {
-        return false;
+        return Ok(false);
     }
     if trace.len() < trace_len {
-        return false;
+        return Ok(false);
     }
     if report.len() < report_len {
-        return false;
+        return Ok(false);
     }
     run_case(
+        rt,
         model,
         tape,
         case.budget,
         &mut work[..work_len],
         &mut trace[..trace_len],
         &mut report[..report_len],
-    );
-    true
+    )?;
+    Ok(true)
 }
 
 // Runs the case at a position and returns the position after it, or 0 where none stands or a buffer is too short for it.
 fn next_case(
+    rt: &impl Print,
     cases: &[u8],
     at: usize,
     work: &mut [u32],
     trace: &mut [u8],
     report: &mut [u8],
-) -> usize {
+) -> io::Result<usize> {
     let case = read_case(cases, at);
     let begin = case.at;
     if cases.len() < begin {
-        return 0;
+        return Ok(0);
     }
     if cases.len() - begin < case.model {
-        return 0;
+        return Ok(0);
     }
     let middle = begin + case.model;
     if cases.len() - middle < case.tape {
-        return 0;
+        return Ok(0);
     }
     let end = middle + case.tape;
     if run_within(
+        rt,
         &cases[begin..middle],
         &cases[middle..end],
         case,
         work,
         trace,
         report,
-    ) {
-        return end;
+    )? {
+        return Ok(end);
     }
-    0
+    Ok(0)
 }
 
-fn run_all(cases: &[u8], work: &mut [u32], trace: &mut [u8], report: &mut [u8]) {
+fn run_all(
+    rt: &impl Print,
+    cases: &[u8],
+    work: &mut [u32],
+    trace: &mut [u8],
+    report: &mut [u8],
+) -> io::Result<()> {
     let mut at = 0;
     while at < cases.len() {
-        let next = next_case(cases, at, work, trace, report);
+        let next = next_case(rt, cases, at, work, trace, report)?;
         if next <= at {
-            io::write_all(STDOUT_FILENO, b"not a case\n");
-            return;
+            return println!(rt; "not a case");
         }
         at = next;
     }
+    Ok(())
 }
 
-fn main() {
+fn main(rt: HostRuntime) -> io::Result<()> {
     let mut cases = [0u8; CASES_BYTES];
     let mut work = [0u32; WORK_NUMBERS];
     let mut trace = [0u8; TRACE_BYTES];
     let mut report = [0u8; REPORT_BYTES];
-    let n = io::read_full(STDIN_FILENO, &mut cases);
-    run_all(&cases[..n], &mut work, &mut trace, &mut report);
+    let n = read_full(&mut rt.reader(), &mut cases)?;
+    run_all(&rt, &cases[..n], &mut work, &mut trace, &mut report)
 }

@@ -1,5 +1,8 @@
 // Trace records (document 01, "Bytes" and "Questions at the door"): the reader on bytes and a
 // position, the writer into the unused rest of the trace buffer, and the counter of low bytes.
+
+#![tactic(auto)]
+
 mod words;
 
 ghost use Rattle.machine.specs.All.{◌≡◌, true, ℕ, ◌+◌, ◌≤◌, ◌<◌, leb, length, sets, in_force, count_low, record_bytes, trace_field, read_record, in_ranges, write_record};
@@ -16,7 +19,7 @@ pub const MAX_BLOCK: u64 = Model::MAX_BLOCKS as u64;
 
 pub const MAX_OUTCOME: u64 = 1;
 
-#[derive(Drop)]
+#[derive(Clone, Copy)]
 pub struct Record {
     pub clock: u64,
     pub transaction: u64,
@@ -25,7 +28,7 @@ pub struct Record {
 }
 
 // A record and the position after it; or the number of the refusal; or no more.
-#[derive(Drop)]
+#[derive(Clone, Copy)]
 pub enum Reading {
     Taken(Record, usize),
     Refused(u32),
@@ -33,7 +36,7 @@ pub enum Reading {
 }
 
 // How many bytes were written; or the number of the refusal.
-#[derive(Drop)]
+#[derive(Clone, Copy)]
 pub enum Written {
     Bytes(usize),
     Refused(u32),

@@ -1,0 +1,11 @@
+-- `codec::read_number` meets its contract: that of `read_shortest`, in the paper's terms.
+use Rattle.machine.specs.All.{max_number_bytes}
+use Rattle.codec.proofs.Answers.{number-answer, number-inside}
+use Rattle.codec.proofs.read_number.Goals as goal
+
+pub returns : goal.returns
+returns c =
+    record {
+      result_value = number-answer _ max_number_bytes _ _ _ c.read_shortest.ensures;
+      inside = number-inside _ max_number_bytes _ _ _ c.read_shortest.ensures;
+    }

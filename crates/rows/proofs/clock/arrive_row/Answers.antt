@@ -1,0 +1,8 @@
+-- `arrive_row` meets its contract: the steps in order.
+use Rattle.rows_laws.specs.All.{arrive_row}
+use Rattle.rows.proofs.clock.arrive_row.Goals as goal
+
+pub returns : goal.returns
+unfolding arrive_row
+returns c =
+    rw (c.put.ensures, c.write.ensures, c.set_returning.ensures, c.cancel.ensures)

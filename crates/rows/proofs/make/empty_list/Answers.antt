@@ -1,0 +1,8 @@
+-- `empty_list` meets its contract: the stores in order.
+use Rattle.rows_laws.specs.All.{empty_list}
+use Rattle.rows.proofs.make.empty_list.Goals as goal
+
+pub returns : goal.returns
+unfolding empty_list
+returns c =
+    rw (c.set-2.ensures, c.set.ensures)
