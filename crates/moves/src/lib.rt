@@ -1,6 +1,9 @@
 // How the moving transaction goes on or comes to wait: its row of the work buffer and the scalars. What is done to the row stands apart
 // and takes plain numbers, since a call that hands scalars over copies them through memory; its contract is of any scalars with these
 // numbers.
+
+#![tactic(auto)]
+
 ghost use Rattle.machine.specs.All.{◌≡◌, ◌<◌, ◌≤◌};
 ghost use Rattle.rows_laws.specs.All.{Room, list_count, row_count};
 ghost use Rattle.moves.specs.Motion.{moved, with_outcome, go_to, go_on_lem, go_back, begin_wait, wait_on, stopped};

@@ -1,6 +1,6 @@
 -- No two rows that live have one number: each is the row of somebody on the machine's lists or of who moves, and there no number stands
 -- twice.
-use Rattle.machine.specs.All.{decided, ℕ, zero, suc, ◌+◌, ◌-◌, ◌≤◌, ◌<◌, ◌≡◌, refl, ap, ◌≢◌, Bool, true, false, cond, List, [], ◌∷◌, map, some, arith, ℕ_discrete, ltb-true, ltb-false, eq-eqb, eqb-true, ltb, eqb, get_or, Transaction, Event, Gatherer, Interrupted, flat, BlockModel, State, of_facility, interrupted_at, bit, everyone, standing}
+use Rattle.machine.specs.All.{ℕ, zero, suc, ◌+◌, ◌-◌, ◌≤◌, ◌<◌, ◌≡◌, refl, ap, ◌≢◌, Bool, true, false, cond, List, [], ◌∷◌, map, some, arith, ℕ_discrete, ltb-true, ltb-false, eq-eqb, eqb-true, ltb, eqb, get_or, Transaction, Event, Gatherer, Interrupted, flat, BlockModel, State, of_facility, interrupted_at, bit, everyone, standing}
 use Rattle.machine.proofs.Lists.Sums.{sum_on, sum-append, sum-those, sum-map, sum-count}
 use Rattle.machine.proofs.{Conservation.Balance.listed, Conservation.Balance.held, Conservation.Conservation.sum-everyone}
 use Rattle.rows_laws.specs.All.{place, fel, free, load, read, lives, transaction_at, event_at, occurs}

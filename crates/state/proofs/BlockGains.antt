@@ -1,5 +1,5 @@
 -- What each block gains: at most 255 serials, no more transactions than there is room for, at most one place of a queue.
-use Rattle.machine.specs.All.{ℕ, zero, suc, ◌+◌, ◌-◌, ◌≤◌, ◌≡◌, refl, Bool, true, false, ◌&&◌, List, [], ◌∷◌, Option, arith, leb-true, leb, ltb, eqb, get_or, set, drop, map-set_same, get_or-drop, in_force, max_living, max_time, Transaction, Event, Gatherer, Interrupted, earlier, insert, nth, Queue, empty_queue, server_at, queue_at, compare, Code, Share, share_server, share_units, Block, generate, advance, terminate, takes, frees, wait_server, wait_terms, moves, assign, priority, split, counts, assemble, preempt, give_back, BlockModel, status, State, set_serial, set_moving, set_ended, set_gatherers, move_to, fresh, to_rel, to_fel, to_ql, to_wel, to_wsl, wake_ql, wake_first_wel, wake_wsl, set_use, set_content, times_left, arrival, copies, waits_for, to_gatherers, comes, released, losers_to, interrupt, resume, unless, ask_generate, question, check_wels, ends_one, delay, wake_for, gathers, gathering, taking_units, preempting, gives_back, ws_scheme}
+use Rattle.machine.specs.All.{ℕ, zero, suc, ◌+◌, ◌-◌, ◌≤◌, ◌≡◌, refl, Bool, true, false, ◌&&◌, List, [], ◌∷◌, Option, arith, leb-true, leb, ltb, eqb, get_or, set, drop, map-set_same, get_or-drop, in_force, max_living, Transaction, Event, Gatherer, Interrupted, earlier, insert, nth, Queue, empty_queue, server_at, queue_at, compare, Code, Share, share_server, share_units, Block, generate, advance, terminate, takes, frees, wait_server, wait_terms, moves, assign, priority, split, counts, assemble, preempt, give_back, BlockModel, status, State, set_serial, set_moving, set_ended, set_gatherers, move_to, fresh, to_rel, to_fel, to_ql, to_wel, to_wsl, wake_ql, wake_first_wel, wake_wsl, set_use, set_content, times_left, arrival, copies, waits_for, to_gatherers, comes, released, losers_to, interrupt, resume, unless, ask_generate, question, check_wels, ends_one, delay, wake_for, gathers, gathering, taking_units, preempting, gives_back, ws_scheme}
 use Rattle.machine.proofs.{Runs.Ahead.Ahead, Runs.Ahead.rising-insert, Runs.Ahead.rising-without, Runs.Kept.changed-most, Decoding.Proper.ProperBlock, Runs.RunLaws.cond_cases, Runs.Shape.each-get_or, Lists.Sorted.each-insert, Lists.Sorted.each_replace, Lists.Sorted.at_set, Runs.Clocks.Samples, Lists.Cases.check_wels-kept, Lists.Cases.ws_scheme-cases}
 use Rattle.state.specs.All.{Bare, entering, going_back, beginning, waiting, bare}
 use Rattle.state.proofs.Gains.{each_set, server_sums, queue_sums, more, Gains, gains_trans, gains-most}

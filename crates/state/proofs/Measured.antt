@@ -1,5 +1,5 @@
 -- Counts and sums stay within bounds: a sum of ticks is at most so much for each tick that passed, since the clock never falls.
-use Rattle.machine.specs.All.{ℕ, zero, suc, ◌+◌, ◌*◌, ◌-◌, ◌≤◌, ◌<◌, ◌≡◌, refl, sym, ap, subst, Bool, List, [], ◌∷◌, map, ◌++◌, Option, none, some, mul-le-mul_right, arith, length, get_or, replicate, in_force, max_capacity, max_counter, max_time, Transaction, Event, those, others, Server, Queue, BlockModel, State, set_clock, set_view, set_fel, set_rel, set_serial, sample_servers, sample_queue, sample, due, move_clock, next_events, take_first, take_ready, taking, Each}
+use Rattle.machine.specs.All.{ℕ, zero, suc, ◌+◌, ◌*◌, ◌-◌, ◌≤◌, ◌<◌, ◌≡◌, refl, sym, ap, subst, Bool, List, [], ◌∷◌, map, ◌++◌, Option, none, some, mul-le-mul_right, arith, length, get_or, replicate, in_force, max_capacity, max_counter, Transaction, Event, those, others, Server, Queue, BlockModel, State, set_clock, set_view, set_fel, set_rel, set_serial, sample_servers, sample_queue, sample, due, move_clock, next_events, take_first, take_ready, taking, Each}
 use Rattle.machine.proofs.{Decoding.Proper.Proper, Runs.RunLaws.cond_cases, Runs.RunLaws.each_map, Runs.RunLaws.each-pair, Lists.Sorted.each-those, Runs.Clocks.Samples, Runs.Ahead.rising-those, Runs.Ahead.Ahead}
 use Rattle.machine.proofs.Runs.Shape.{Shape, Within, capacity_of, all_capacities}
 use Rattle.rows_laws.specs.All.{arrivals}

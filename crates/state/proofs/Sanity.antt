@@ -13,7 +13,7 @@ use Rattle.machine.proofs.Later.Gathering.{Gathering, gathering-turn, gathering-
 use Rattle.state.specs.All.{Note, entered_note, waits_note, no_note, logged, count_entry, note_as}
 use Rattle.state.proofs as our
 use our.Sane.{Sane}
-use our.Gains.{Each-set, server_sums, queue_sums, Gains, gains_trans, gains-most}
+use our.Gains.{each_set, server_sums, queue_sums, Gains, gains_trans, gains-most}
 use our.BlockGains.{gains-none, gains-arrival}
 use our.TurnGains.{Turned, unnoted, noted, turned}
 use our.Numbered.{Numbered, numbered}
@@ -165,7 +165,7 @@ note-entries : (k : ℕ) (n : Note) (t : Transaction) (s x : State) → Few k x.
 unfolding note_as logged count_entry
 note-entries k entered_note t s x h =
     let old : nth x.view.entries t.next 0 ≤ k = each-get_or (λ (e : ℕ). e ≤ k) x.view.entries (t.next - 1) 0 h (omega arith) in
-    Each-set (λ (e : ℕ). e ≤ suc k) x.view.entries (t.next - 1) _ (fewer k x.view.entries h) (omega (arith, old))
+    each_set (λ (e : ℕ). e ≤ suc k) x.view.entries (t.next - 1) _ (fewer k x.view.entries h) (omega (arith, old))
 note-entries k waits_note t s x h = fewer k x.view.entries h
 note-entries k no_note t s x h = fewer k x.view.entries h
 

@@ -1,6 +1,6 @@
 -- Sums and longest lengths of the tally, brought up to date: what they read, that a number which is up to date may change, what a
 -- clock move adds, and that to bring a server or a queue up to date changes none of them.
-use Rattle.machine.specs.All.{cases, ℕ, ◌+◌, ◌*◌, ◌-◌, ◌≤◌, ◌<◌, min, max, ◌≡◌, refl, sym, ◌∙◌, ◌≢◌, Bool, true, false, not, true≢false, List, mul-add, arith, ℕ_discrete, eq-eqb, ne_eqb, eqb-true, ltb, length, get_or, set, length-set, get_or-set_same, get_or-set_other, max_clock, State}
+use Rattle.machine.specs.All.{ℕ, ◌+◌, ◌*◌, ◌-◌, ◌≤◌, ◌<◌, min, max, ◌≡◌, refl, sym, ◌∙◌, ◌≢◌, Bool, true, false, not, true≢false, List, mul-add, arith, ℕ_discrete, eq-eqb, ne_eqb, eqb-true, ltb, length, get_or, set, length-set, get_or-set_same, get_or-set_other, max_clock, State}
 use Rattle.layout.specs.Layout as Layout
 use Rattle.state.specs.All.{count_end, product, ticks_since, behind, sum_now, longest_now, see, store_server, update_server, store_queue, update_queue, Seen, Serving, Queueing, Tallying}
 use Rattle.state.proofs.Products.{product_is}

@@ -1,6 +1,6 @@
 -- What a report counts from the records: of an outcome at blocks that pass a test, the sum over the blocks of what is counted
 -- block by block.
-use Rattle.machine.specs.All.{cases, ℕ, zero, suc, ◌+◌, ◌≡◌, refl, sym, subst, Bool, true, false, cond, ◌&&◌, List, [], ◌∷◌, ◌++◌, arith, eqb-true, eqb-false, eq-eqb, ne_eqb, eqb, length, in_force, those, Record, Facts, facts, BlockModel, block_at, State, Logged, records_at, records_of, Each, count, bit, up_to, InModel}
+use Rattle.machine.specs.All.{ℕ, zero, suc, ◌+◌, ◌≡◌, refl, sym, subst, Bool, true, false, cond, ◌&&◌, List, [], ◌∷◌, ◌++◌, arith, eqb-true, eqb-false, eq-eqb, ne_eqb, eqb, length, in_force, those, Record, Facts, facts, BlockModel, block_at, State, Logged, records_at, records_of, Each, count, bit, up_to, InModel}
 use Rattle.machine.proofs.Decoding.Proper.{Names}
 use Rattle.machine.proofs.Lists.Sums.{count-cons, up_to_cong, up_to-zero, up_to-one}
 use Rattle.trace.specs.Whole.{AllInRanges}

@@ -1,5 +1,8 @@
 // The state of a run: scalars by value here, transactions and lists in the work buffer (crate rows), entries, units and sums in
 // the tally (crate layout). specs/Stands says when the three stand for a state of the machine.
+
+#![tactic(auto)]
+
 mod arith;
 mod scalars;
 mod statistics;
