@@ -7,5 +7,5 @@ use Rattle.values_queues.proofs.comparison.worth.Goals as goal
 pub returns : goal.returns
 unfolding worth_at
 returns c =
-    let worth = back _ c.term_at.ok ∙ c.term_at.ensures in
+    let worth = back _ c.term_at.type_inv ∙ c.term_at.ensures in
     c.bits.ensures ∙ rw (worth, c.parameters_of-parameters.ensures)

@@ -18,5 +18,5 @@ unfolding leaves_by_lem leaves_from
 returns c =
     rw (lt-ltb _ _ c.if-at-blocks.false, ← c.number.ensures, eq-eqb _ 9 c.if-number-ne-WAIT_TERMS.false)
     (ap not
-    (held-related c.related.ensures c.number-2.ensures c.side-a.ok c.side-a.ensures c.side-b.ok
+    (held-related c.related.ensures c.number-2.ensures c.side-a.type_inv c.side-a.ensures c.side-b.type_inv
     c.side-b.ensures))

@@ -26,11 +26,11 @@ loop-i-preserved c =
       rw (
         c.step-cell.ensures.rows,
         c.step-cell.ensures.cell,
-        leaves_by _ _ _ _ _ _ c.Block-of.ensures.0 left right,
+        leaves_by _ _ _ _ _ _ c.block_of-at.ensures.block left right,
         c.load-k.ensures,
       )
           (sym (wake_all-next _ _ _ _ _ _ (omega arith) (omega arith)) ∙ c.loop-i.invariant.0),
-      (omega arith, (omega (arith, c.step-cell.kept), (c.Block-of.ensures.1, (left, right)))),
+      (omega arith, (omega arith, (c.block_of-at.ensures.most, (left, right)))),
     )
 
 pub returns : goal.returns

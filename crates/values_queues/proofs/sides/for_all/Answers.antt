@@ -11,5 +11,5 @@ term_at-requires c = omega (arith, own-inside _ _ (sym c.names_own.ensures ∙ c
 
 pub returns : goal.returns
 returns c =
-    for-all_bits (sym c.names_own.ensures ∙ c.if-names_own.false) _ c.term_at.ok c.term_at.ensures _
+    for-all_bits (sym c.names_own.ensures ∙ c.if-names_own.false) _ c.term_at.type_inv c.term_at.ensures _
     c.bits.ensures

@@ -7,5 +7,5 @@ use Rattle.values_queues.proofs.sides.held.Goals as goal
 pub returns : goal.returns
 unfolding held_at
 returns c =
-    held-related c.related.ensures c.number.ensures c.worth_to-a.ok c.worth_to-a.ensures
-    c.worth_to-b.ok c.worth_to-b.ensures
+    held-related c.related.ensures c.number.ensures c.worth_to-a.type_inv c.worth_to-a.ensures
+    c.worth_to-b.type_inv c.worth_to-b.ensures

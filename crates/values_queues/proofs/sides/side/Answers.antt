@@ -6,8 +6,8 @@ use Rattle.values_queues.proofs.sides.side.Goals as goal
 
 pub returns-then-answer-lt-OWN : goal.returns-then-answer-lt-OWN
 unfolding side_by
-returns-then-answer-lt-OWN c = rw (lt-ltb _ 4294967296 c.if-answer-lt-OWN.true) (back _ c.signed.type-inv ∙ c.signed.ensures)
+returns-then-answer-lt-OWN c = rw (lt-ltb _ 4294967296 c.if-answer-lt-OWN.true) (back _ c.signed.type_inv ∙ c.signed.ensures)
 
 pub returns : goal.returns
 unfolding side_by
-returns c = rw (le-ltb _ 4294967296 c.if-answer-lt-OWN.false) (back _ c.own.type-inv ∙ c.own.ensures)
+returns c = rw (le-ltb _ 4294967296 c.if-answer-lt-OWN.false) (back _ c.own.type_inv ∙ c.own.ensures)
