@@ -1,5 +1,5 @@
 -- `assign` meets its contract: the parameter is written, then the transaction goes on.
-use Rattle.machine.specs.All.{◌∙◌, rules}
+use Rattle.machine.specs.All.{◌∙◌}
 use Rattle.values_queues_laws.specs.Comparison.{assign_rows}
 use Rattle.values_queues.proofs.comparison.assign.Goals as goal
 

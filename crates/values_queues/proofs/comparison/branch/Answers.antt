@@ -1,5 +1,5 @@
 -- `branch` meets its contract, by cases on the comparison.
-use Rattle.machine.specs.All.{◌∙◌, rules}
+use Rattle.machine.specs.All.{◌∙◌}
 use Rattle.values_queues_laws.specs.Comparison.{branch_rows}
 use Rattle.values_queues.proofs.comparison.branch.Goals as goal
 

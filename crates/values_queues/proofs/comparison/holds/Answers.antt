@@ -1,5 +1,5 @@
 -- `holds` meets its contract: the comparison with the parameters of the row.
-use Rattle.machine.specs.All.{◌∙◌, rules}
+use Rattle.machine.specs.All.{◌∙◌}
 use Rattle.values_queues_laws.specs.Comparison.{holds_at}
 use Rattle.values_queues.proofs.comparison.holds.Goals as goal
 

@@ -1,6 +1,5 @@
 -- `parameters_of` meets its contract: four reads.
 use Rattle.values_queues_laws.specs.Comparison.{parameters_at}
-use Rattle.machine.specs.All.{rules}
 use Rattle.values_queues.proofs.comparison.parameters_of.Goals as goal
 
 pub returns : goal.returns

@@ -1,5 +1,5 @@
 -- `set_parameter` meets its contract, by cases on whether there is such a parameter.
-use Rattle.machine.specs.All.{lt-ltb, le-ltb, rules}
+use Rattle.machine.specs.All.{lt-ltb, le-ltb}
 use Rattle.values_queues_laws.specs.Comparison.{set_parameter}
 use Rattle.values_queues.proofs.comparison.set_parameter.Goals as goal
 

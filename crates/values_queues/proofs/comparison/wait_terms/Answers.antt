@@ -1,6 +1,5 @@
 -- `wait_terms` meets its contract, by cases on the comparison.
 use Rattle.values_queues_laws.specs.Waits.{wait_terms_rows}
-use Rattle.machine.specs.All.{rules}
 use Rattle.values_queues.proofs.comparison.wait_terms.Goals as goal
 
 pub returns-then-held : goal.returns-then-held

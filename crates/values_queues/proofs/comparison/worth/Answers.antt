@@ -1,5 +1,5 @@
 -- `worth` meets its contract: the bits of what the term is worth.
-use Rattle.machine.specs.All.{◌∙◌, rules}
+use Rattle.machine.specs.All.{◌∙◌}
 use Rattle.values_queues_laws.specs.Comparison.{worth_at}
 use Rattle.evaluation.proofs.Signs.{back}
 use Rattle.values_queues.proofs.comparison.worth.Goals as goal

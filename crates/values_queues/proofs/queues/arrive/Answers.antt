@@ -1,6 +1,5 @@
 -- `arrive` meets its contract: one content more.
 use Rattle.values_queues_laws.specs.Queues.{arrive_rows}
-use Rattle.machine.specs.All.{rules}
 use Rattle.values_queues.proofs.queues.arrive.Goals as goal
 
 pub returns : goal.returns

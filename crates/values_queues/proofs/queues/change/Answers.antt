@@ -1,5 +1,5 @@
 -- `change` meets its contract: the statistics, one store to the tally, then the transaction goes on.
-use Rattle.machine.specs.All.{◌∙◌, rules}
+use Rattle.machine.specs.All.{◌∙◌}
 use Rattle.values_queues_laws.specs.Queues.{change}
 use Rattle.moves.proofs.MotionLaws.{tallied}
 use Rattle.values_queues.proofs.queues.change.Goals as goal

@@ -1,5 +1,5 @@
 -- `depart` meets its contract, by cases on whether there is content.
-use Rattle.machine.specs.All.{eq-eqb, ne_eqb, rules}
+use Rattle.machine.specs.All.{eq-eqb, ne_eqb}
 use Rattle.values_queues_laws.specs.Queues.{depart_rows}
 use Rattle.values_queues.proofs.queues.depart.Goals as goal
 

@@ -1,5 +1,5 @@
 -- `leaves` meets its contract, by cases on the block at which the row stands.
-use Rattle.machine.specs.All.{ap, not, lt-ltb, le-ltb, eq-eqb, ne_eqb, rules}
+use Rattle.machine.specs.All.{ap, not, lt-ltb, le-ltb, eq-eqb, ne_eqb}
 use Rattle.values_queues_laws.specs.Scheme.{leaves_from, leaves_by_lem}
 use Rattle.values_queues_laws.proofs.Sharing.{held-related}
 use Rattle.values_queues.proofs.scheme.leaves.Goals as goal

@@ -1,5 +1,5 @@
 -- `step` meets its contract: it passes or keeps the row, as the test says.
-use Rattle.machine.specs.All.{◌∙◌, rules}
+use Rattle.machine.specs.All.{◌∙◌}
 use Rattle.values_queues.proofs.scheme.step.Goals as goal
 
 pub returns : goal.returns

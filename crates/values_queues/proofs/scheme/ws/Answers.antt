@@ -1,9 +1,8 @@
 -- `ws` meets its contract. The invariant: the rest of the walk from here is the whole walk, and the answers for all are those of the
 -- block that was seen last. The measure: the steps left.
-use Rattle.machine.specs.All.{◌+◌, ◌-◌, ◌≤◌, ◌≡◌, refl, sym, ◌∙◌, arith, rules, eq-eqb, ne_eqb, length}
-use Rattle.rows_laws.specs.All.{head, wsl, wake_all}
+use Rattle.machine.specs.All.{refl, sym, ◌∙◌, arith, eq-eqb, ne_eqb}
 use Rattle.rows_laws.proofs.Steps.{wake_all-end, wake_all-stop, wake_all-next}
-use Rattle.values_queues_laws.specs.{Scheme.leaves, Scheme.ws_scheme, Sides.ForAll}
+use Rattle.values_queues_laws.specs.{Scheme.ws_scheme}
 use Rattle.values_queues_laws.proofs.Sharing.{leaves_by, for-all-past}
 use Rattle.values_queues.proofs.scheme.ws.Goals as goal
 

@@ -1,5 +1,5 @@
 -- `for_all` meets its contract, by cases on whether a parameter is named.
-use Rattle.machine.specs.All.{arith, sym, ◌∙◌, rules}
+use Rattle.machine.specs.All.{arith, sym, ◌∙◌}
 use Rattle.values_queues_laws.proofs.Sharing.{own-inside, for-all-none, for-all_bits}
 use Rattle.values_queues.proofs.sides.for_all.Goals as goal
 

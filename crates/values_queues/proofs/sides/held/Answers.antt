@@ -1,5 +1,4 @@
 -- `held` meets its contract: both sides, then the relation.
-use Rattle.machine.specs.All.{rules}
 use Rattle.values_queues_laws.specs.Waits.{held_at}
 use Rattle.values_queues_laws.proofs.Sharing.{held-related}
 use Rattle.values_queues.proofs.sides.held.Goals as goal

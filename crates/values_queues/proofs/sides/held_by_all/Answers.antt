@@ -1,5 +1,4 @@
 -- `held_by_all` meets its contract, by cases on whether a side names a parameter.
-use Rattle.machine.specs.All.{rules}
 use Rattle.values_queues_laws.specs.Waits.{held_by_all}
 use Rattle.values_queues.proofs.sides.held_by_all.Goals as goal
 

@@ -1,5 +1,5 @@
 -- `names_own` meets its contract, by cases on the tag.
-use Rattle.machine.specs.All.{lt-ltb, le-ltb, eq-eqb, ne_eqb, rules}
+use Rattle.machine.specs.All.{lt-ltb, le-ltb, eq-eqb, ne_eqb}
 use Rattle.values_queues_laws.specs.Sides.{names_own}
 use Rattle.values_queues.proofs.sides.names_own.Goals as goal
 

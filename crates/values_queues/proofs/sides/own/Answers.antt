@@ -1,5 +1,5 @@
 -- `own` meets its contract, by cases on whether the term is a parameter by itself.
-use Rattle.machine.specs.All.{sym, ap, ◌∙◌, signed, rules}
+use Rattle.machine.specs.All.{sym, ap, ◌∙◌, signed}
 use Rattle.evaluation.proofs.Signs.{back}
 use Rattle.values_queues_laws.proofs.Sharing.{parameter-term}
 use Rattle.values_queues.proofs.sides.own.Goals as goal

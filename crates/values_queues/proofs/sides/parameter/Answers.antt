@@ -1,5 +1,5 @@
 -- `parameter` meets its contract, by cases on whether there is one.
-use Rattle.machine.specs.All.{◌∙◌, rules}
+use Rattle.machine.specs.All.{◌∙◌}
 use Rattle.values_queues_laws.proofs.Sharing.{parameter-past, parameter-read}
 use Rattle.values_queues.proofs.sides.parameter.Goals as goal
 

@@ -1,5 +1,5 @@
 -- `side` meets its contract, by cases on whether there is an answer for all.
-use Rattle.machine.specs.All.{◌∙◌, lt-ltb, le-ltb, rules}
+use Rattle.machine.specs.All.{◌∙◌, lt-ltb, le-ltb}
 use Rattle.evaluation.proofs.Signs.{back}
 use Rattle.values_queues_laws.specs.Sides.{side_by}
 use Rattle.values_queues.proofs.sides.side.Goals as goal

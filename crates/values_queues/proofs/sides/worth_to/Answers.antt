@@ -1,5 +1,5 @@
 -- `worth_to` meets its contract, by cases on whether a parameter is named.
-use Rattle.machine.specs.All.{◌∙◌, rules}
+use Rattle.machine.specs.All.{◌∙◌}
 use Rattle.evaluation.proofs.Signs.{back}
 use Rattle.values_queues_laws.specs.Sides.{side_at}
 use Rattle.values_queues.proofs.sides.worth_to.Goals as goal
