@@ -5,7 +5,8 @@ mod nested;
 mod rows;
 mod whole;
 
-ghost use Rattle.machine.specs.All.{◌≤◌, ◌≡◌, length};
+ghost use Rattle.std.specs.Prelude.{◌≤◌, ◌≡◌};
+ghost use Rattle.machine.specs.All.{length};
 ghost use Rattle.join_laws.specs.Joining.{join as joining};
 ghost use Rattle.join.specs.Contract.{Contract};
 ghost use Rattle.join_laws.specs.Whole.{Fits, kept_room, at_front_lem, joined_bytes_lem, joined_tables, Ready};
