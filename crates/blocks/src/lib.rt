@@ -1,4 +1,7 @@
 // One block: its kind chooses the function.
+
+#![tactic(auto)]
+
 ghost use Rattle.std.specs.Prelude.{◌≡◌, ◌<◌, ◌≤◌};
 ghost use Rattle.machine.specs.All.{max_facilities};
 ghost use Rattle.layout.specs.All.{program_size};
