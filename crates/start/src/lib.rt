@@ -1,5 +1,8 @@
 // The start of a run: "clock 0; for each GENERATE in block order, if its sample list has a time, one transaction on the FEL at that
 // time". Nothing is asked.
+
+#![tactic(auto)]
+
 ghost use Rattle.machine.specs.All.{◌≡◌, ◌<◌, ◌≤◌, min, max_blocks, max_lists};
 ghost use Rattle.layout.specs.All.{most32};
 ghost use Rattle.rows_laws.specs.All.{Room};
