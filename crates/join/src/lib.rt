@@ -1,4 +1,7 @@
 // Two plants as one model, over bytes (document 02, item 13). specs/Contract has what `join` promises for all bytes and lengths.
+
+#![tactic(auto)]
+
 mod copying;
 mod moving;
 mod nested;
