@@ -1,5 +1,5 @@
 -- `execute` meets its contract: each kind by its function, anything else by nothing.
-use Rattle.machine.specs.All.{ℕ, List, ◌≡◌, refl, ne_eqb, rules}
+use Rattle.machine.specs.All.{arith, sym, ◌∙◌, ℕ, List, ◌≡◌, refl, ne_eqb, rules}
 use Rattle.state.specs.{declared.scalars.Scalars.Scalars, All.rows_of}
 use Rattle.moves.proofs.MotionLaws.{tallied}
 use Rattle.blocks.specs.{later, by_kind, execute}
@@ -180,6 +180,29 @@ returns-in-20 c =
 pub returns-in_default : goal.returns-in_default
 unfolding execute
 returns-in_default c =
+    let not-1 : c.number-kind.result ≡ 1 → ⊥ = λ e. omega (arith, e) in
+    let not-2 : c.number-kind.result ≡ 2 → ⊥ = λ e. omega (arith, e) in
+    let not-3 : c.number-kind.result ≡ 3 → ⊥ = λ e. omega (arith, e) in
+    let not-4 : c.number-kind.result ≡ 4 → ⊥ = λ e. omega (arith, e) in
+    let not-5 : c.number-kind.result ≡ 5 → ⊥ = λ e. omega (arith, e) in
+    let not-6 : c.number-kind.result ≡ 6 → ⊥ = λ e. omega (arith, e) in
+    let not-7 : c.number-kind.result ≡ 7 → ⊥ = λ e. omega (arith, e) in
+    let not-8 : c.number-kind.result ≡ 8 → ⊥ = λ e. omega (arith, e) in
+    let not-9 : c.number-kind.result ≡ 9 → ⊥ = λ e. omega (arith, e) in
+    let not-10 : c.number-kind.result ≡ 10 → ⊥ = λ e. omega (arith, e) in
+    let not-11 : c.number-kind.result ≡ 11 → ⊥ = λ e. omega (arith, e) in
+    let not-12 : c.number-kind.result ≡ 12 → ⊥ = λ e. omega (arith, e) in
+    let not-13 : c.number-kind.result ≡ 13 → ⊥ = λ e. omega (arith, e) in
+    let not-14 : c.number-kind.result ≡ 14 → ⊥ = λ e. omega (arith, e) in
+    let not-15 : c.number-kind.result ≡ 15 → ⊥ = λ e. omega (arith, e) in
+    let not-16 : c.number-kind.result ≡ 16 → ⊥ = λ e. omega (arith, e) in
+    let not-17 : c.number-kind.result ≡ 17 → ⊥ = λ e. omega (arith, e) in
+    let not-18 : c.number-kind.result ≡ 18 → ⊥ = λ e. omega (arith, e) in
+    let not-19 : c.number-kind.result ≡ 19 → ⊥ = λ e. omega (arith, e) in
+    let not-20 : c.number-kind.result ≡ 20 → ⊥ = λ e. omega (arith, e) in
     rw (← c.number-kind.ensures)
-    (cc (none_first _ _ _ _ _ _ _ _ _ (λ e. omega (arith, e)) (λ e. omega (arith, e)) (λ e. omega (arith, e)) (λ e. omega (arith, e)) (λ e. omega (arith, e)) (λ e. omega (arith, e)) (λ e. omega (arith, e)) (λ e. omega (arith, e)),
-      none-later _ _ _ _ _ _ _ _ _ (λ e. omega (arith, e)) (λ e. omega (arith, e)) (λ e. omega (arith, e)) (λ e. omega (arith, e)) (λ e. omega (arith, e)) (λ e. omega (arith, e)) (λ e. omega (arith, e)) (λ e. omega (arith, e)) (λ e. omega (arith, e)) (λ e. omega (arith, e)) (λ e. omega (arith, e)) (λ e. omega (arith, e))))
+    (sym
+    (none_first c.args.tables.now c.args.values c.args.facilities c.args.tape.now c.args.work.now c.args.tally.now c.args.x c.args.at c.number-kind.result
+    not-1 not-2 not-3 not-4 not-5 not-6 not-7 not-8
+    ∙ none-later c.args.tables.now c.args.values c.args.facilities c.args.tape.now c.args.work.now c.args.tally.now c.args.x c.args.at c.number-kind.result
+    not-9 not-10 not-11 not-12 not-13 not-14 not-15 not-16 not-17 not-18 not-19 not-20))
