@@ -1,5 +1,8 @@
 // The blocks that make transactions, delay them, gather them and end them: GENERATE, ADVANCE, TERMINATE, PRIORITY, SPLIT and ASSEMBLE. Each
 // kind is one function of the same shape over tables, buffers, scalars and the place of its block in the tables.
+
+#![tactic(auto)]
+
 mod advancing;
 mod gathering;
 mod generating;

@@ -1,5 +1,5 @@
 -- The questions, asked of the scalars, are the machine's.
-use Rattle.machine.specs.All.{cases, ℕ, zero, suc, ◌+◌, ◌-◌, ◌%◌, ◌≤◌, min, ◌≡◌, refl, ap, Bool, true, false, cond, List, ◌∷◌, arith, le-ltb, leb-true, eqb-true, eq-eqb, ne_eqb, eqb, leb, length, get_or, in_force, max_living, Transaction, bit, up_to, server_at, Block, terminate, BlockModel, State, times_left, unless, living, ask_generate, held, question}
+use Rattle.machine.specs.All.{ℕ, zero, suc, ◌+◌, ◌-◌, ◌%◌, ◌≤◌, min, ◌≡◌, refl, ap, Bool, true, false, cond, List, ◌∷◌, arith, le-ltb, leb-true, eqb-true, eq-eqb, ne_eqb, eqb, leb, length, get_or, in_force, max_living, Transaction, bit, up_to, server_at, Block, terminate, BlockModel, State, times_left, unless, living, ask_generate, held, question}
 use Rattle.layout.specs.All.{most64, holder, tally_size}
 use Rattle.machine.proofs.Lists.Sums.{up_to-zero}
 use Rattle.state.specs.{declared.scalars.Scalars.Scalars, All.of_residue}

@@ -1,5 +1,5 @@
 -- Copies, one after the other.
-use Rattle.machine.specs.All.{cases, ℕ, suc, ◌+◌, ◌-◌, ◌<◌, ◌≡◌, ap, List, arith, ltb}
+use Rattle.machine.specs.All.{ℕ, suc, ◌+◌, ◌-◌, ◌<◌, ◌≡◌, ap, List, arith, ltb}
 use Rattle.rows_laws.specs.All.{free, first}
 use Rattle.state.specs.declared.scalars.Scalars.{Scalars}
 use Rattle.moves.specs.Motion.{Moved, moved, go_to, go_on_lem}

@@ -1,5 +1,5 @@
 -- The next time of a sample list: the number read is the head of the list, and after it is used the tally stands for the rest.
-use Rattle.machine.specs.All.{clash, cases, ℕ, ◌+◌, ◌-◌, ◌≤◌, ◌<◌, ◌≡◌, refl, ap, ◌∙◌, ◌≢◌, Bool, true, false, ◌&&◌, List, [], ◌∷◌, Option, none, some, arith, ℕ_discrete, leb-true, leb, length, get_or, set, drop, length-set, get_or-set_same, get_or-set_other, max_number_bytes, five_groups, max_time, Number, read_number, Cursor, Parsed, parsed, refused, Parser, continue, give, times, forward, field_of, field_up_to}
+use Rattle.machine.specs.All.{ℕ, ◌+◌, ◌-◌, ◌≤◌, ◌<◌, ◌≡◌, refl, ap, ◌∙◌, ◌≢◌, Bool, true, false, ◌&&◌, List, [], ◌∷◌, Option, none, some, arith, ℕ_discrete, leb-true, leb, length, get_or, set, drop, length-set, get_or-set_same, get_or-set_other, max_number_bytes, five_groups, max_time, Number, read_number, Cursor, Parsed, parsed, refused, Parser, continue, give, times, forward, field_of, field_up_to}
 use Rattle.machine.proofs.Basic.Bools.{and_true}
 use Rattle.layout.specs.Layout as Layout
 use Rattle.layout.specs.All.{TimesAt}

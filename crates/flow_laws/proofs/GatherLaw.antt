@@ -18,7 +18,7 @@ use Rattle.moves.proofs.MotionLaws.{next32-suc, next-read, number_read}
 use Rattle.flow_laws.specs.{to_ready, list_at_lem, gather_on, release_on, end_on, count_on, later_rows, gather_rows, assemble_rows}
 use Rattle.flow_laws.proofs as our
 use our.{Asked.holding-asked, TerminateLaw.free-listing}
-use our.Kin.{Match, Split, split, none_of, one_of_lem, those-first, replaced, each_at}
+use our.Kin.{Match, Split, split, none_of, one_of, those-first, replaced, each_at}
 use mathlib.Core.Path.{subst}
 
 module _ {m : BlockModel} {tape : List (List ℕ)} {tape_bytes tables lists w tally : List ℕ} {x : Scalars} {t : Transaction} {s : State}
@@ -157,7 +157,7 @@ module _ {m : BlockModel} {tape : List (List ℕ)} {tape_bytes tables lists w ta
     ahead_none = none_of w t a part.ahead part.before others
 
     own-one : in_family t g ≡ true
-    own-one = one_of_lem w t k g part.here own
+    own-one = one_of w t k g part.here own
 
     waits : waits_for t s ≡ g ∷ those (in_family t) part.behind
     waits = ap (those (in_family t)) part.parts ∙ those-first (in_family t) part.ahead g part.behind ahead_none own-one

@@ -1,4 +1,7 @@
 // 19 PREEMPT f and 20 RETURN f (document 02, item 11).
+
+#![tactic(auto)]
+
 ghost use Rattle.machine.specs.All.{◌≡◌, ◌<◌};
 ghost use Rattle.layout.specs.All.{program_size, server_count};
 ghost use Rattle.rows_laws.specs.All.{Room, row_count};

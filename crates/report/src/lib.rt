@@ -1,6 +1,9 @@
 // The report, written after the run (document 01, "Report: clock, made, ended; per facility and storage: ..; per queue: ..; the
 // living count and, per living one, number and place"). specs/Numbers of
 // report_laws has its numbers, proofs/Report there that they are the machine's.
+
+#![tactic(auto)]
+
 mod counts;
 mod living;
 

@@ -2,10 +2,9 @@
 ghost use Rattle.io.specs.Counts.{IsPrefixLen};
 ghost use Rattle.machine.specs.All.{◌≡◌, ℕ, ◌≤◌, length};
 
-use std::io;
 use std::io::Read;
 use std::rt::Files;
-use std::fs;
+use std::{fs, io};
 
 // How many bytes were read; or the file could not be read, which standard error says.
 #[derive(Drop)]
@@ -20,12 +19,7 @@ pub fn fail(rt: &impl Eprint, what: &str, error: io::Error) {
 }
 
 // One read. No bytes are the file's end.
-fn read_some(
-    rt: &impl Eprint,
-    file: &mut impl Read,
-    name: &str,
-    rest: &mut [u8],
-) -> File
+fn read_some(rt: &impl Eprint, file: &mut impl Read, name: &str, rest: &mut [u8]) -> File
     ensures { (n : ℕ) → result ≡ File.Read n → n ≤ length rest.old }
 {
     match file.read(rest) {
@@ -38,12 +32,7 @@ fn read_some(
 }
 
 // Reads until the buffer is full or the file ends.
-fn read_all(
-    rt: &impl Eprint,
-    file: &mut impl Read,
-    name: &str,
-    buffer: &mut [u8],
-) -> File
+fn read_all(rt: &impl Eprint, file: &mut impl Read, name: &str, buffer: &mut [u8]) -> File
     ensures { (n : ℕ) → result ≡ File.Read n → IsPrefixLen n buffer.new }
 {
     let mut done = 0;

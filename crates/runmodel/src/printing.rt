@@ -130,12 +130,7 @@ fn print_all(
 }
 
 // Clock, made and ended begin the report, and the living follow the queues.
-fn print_report(
-    rt: &impl Print,
-    m: Model,
-    outcome: Outcome,
-    report: &[u8],
-) -> io::Result<()> {
+fn print_report(rt: &impl Print, m: Model, outcome: Outcome, report: &[u8]) -> io::Result<()> {
     let facilities = skip(report, 0, HEAD);
     let storages = skip_all(report, facilities, m.facilities, SERVER);
     let queues = skip_all(report, storages, m.storages, SERVER);

@@ -13,7 +13,7 @@ use tapes_laws::Distribution;
 const STATES_PER_PART: u32 = 32_768;
 
 // A time and the state behind its draw.
-#[derive(Drop)]
+#[derive(Clone, Copy)]
 pub struct Drawn {
     pub time: u64,
     pub state: u32,

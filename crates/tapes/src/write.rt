@@ -13,7 +13,7 @@ use codec::{number_len, write_number};
 use tapes_laws::{Distribution, Row};
 
 // Bytes so far, and the state of the stream.
-#[derive(Drop)]
+#[derive(Clone, Copy)]
 pub struct Progress {
     pub bytes: usize,
     pub state: u32,

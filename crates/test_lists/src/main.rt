@@ -93,14 +93,12 @@ fn drain(rt: &impl Print, w: &mut [u32], p: u32) -> io::Result<()>
     requires room { Room w.old }
     requires p_lt_list_count { p < list_count }
 {
-    let mut i: u32 = 0;
-    while i < ROWS {
+    for _ in 0..ROWS {
         let number = leave(w, p);
         if number == 0 {
             return Ok(());
         }
         show(rt, number)?;
-        i += 1;
     }
     Ok(())
 }
@@ -109,14 +107,12 @@ fn drain(rt: &impl Print, w: &mut [u32], p: u32) -> io::Result<()>
 fn drain_later(rt: &impl Print, w: &mut [u32]) -> io::Result<()>
     requires { Room w.old }
 {
-    let mut i: u32 = 0;
-    while i < ROWS {
+    for _ in 0..ROWS {
         let number = leave_later(w);
         if number == 0 {
             return Ok(());
         }
         show(rt, number)?;
-        i += 1;
     }
     Ok(())
 }

@@ -86,12 +86,7 @@ fn answer(rt: &impl Print, model: &[u8], tape: &[u8]) -> io::Result<()> {
     print!(rt; "{n}")
 }
 
-fn show(
-    rt: &impl Print,
-    name: &[u8],
-    model_text: &[u8],
-    tape_text: &[u8],
-) -> io::Result<()> {
+fn show(rt: &impl Print, name: &[u8], model_text: &[u8], tape_text: &[u8]) -> io::Result<()> {
     let mut model = [0u8; MOST_BYTES];
     let mut tape = [0u8; MOST_BYTES];
     let m = bytes_of(model_text, &mut model);
@@ -111,7 +106,12 @@ fn show_line(rt: &impl Print, line: &[u8]) -> io::Result<()> {
     if slash >= line.len() {
         return Ok(());
     }
-    show(rt, &line[..colon], &line[colon + 1..slash], &line[slash + 1..])
+    show(
+        rt,
+        &line[..colon],
+        &line[colon + 1..slash],
+        &line[slash + 1..],
+    )
 }
 
 fn show_all(rt: &impl Print, cases: &[u8]) -> io::Result<()> {

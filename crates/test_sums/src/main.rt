@@ -19,14 +19,12 @@ fn put(tables: &mut [u32], at: usize, numbers: &[u32]) {
     if tables.len() <= at {
         return;
     }
-    let mut i = 0;
-    while i < numbers.len() {
+    for (i, number) in numbers.iter().enumerate() {
         let place = at + i;
         if tables.len() <= place {
             return;
         }
-        tables[place] = numbers[i];
-        i += 1;
+        tables[place] = *number;
     }
 }
 
@@ -105,11 +103,7 @@ fn show_comparison(
     }
 }
 
-fn show_all(
-    rt: &impl Print,
-    tables: &mut [u32; TABLES],
-    tally: &[u64; TALLY],
-) -> io::Result<()> {
+fn show_all(rt: &impl Print, tables: &mut [u32; TABLES], tally: &[u64; TALLY]) -> io::Result<()> {
     for k in 0..8 {
         show_value(rt, tables, tally, k)?;
     }

@@ -11,12 +11,7 @@ fn print_bytes(rt: &impl Print, tape: &[u8; 12]) -> io::Result<()> {
     println!(rt)
 }
 
-fn print_call(
-    rt: &impl Print,
-    stream: u32,
-    lists: &[u32],
-    numbers: &[f64],
-) -> io::Result<()> {
+fn print_call(rt: &impl Print, stream: u32, lists: &[u32], numbers: &[f64]) -> io::Result<()> {
     let mut tape = [7u8; 12];
     let made = tapes::make(stream, lists, numbers, &mut tape);
     match made {

@@ -95,10 +95,7 @@ fn run_case(
     trace: &mut [u8],
     report: &mut [u8],
 ) -> io::Result<()> {
-    print_results(
-        rt,
-        engine::run(model, tape, budget, work, trace, report),
-    )?;
+    print_results(rt, engine::run(model, tape, budget, work, trace, report))?;
     print_checksums(rt, trace, report)
 }
 

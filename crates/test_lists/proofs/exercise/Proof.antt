@@ -1,8 +1,0 @@
--- `exercise` meets its contract: the buffer keeps its length.
-use Rattle.machine.specs.All.{arith}
-use Rattle.test_lists.proofs.exercise as f
-
-pub exercise-spec : {M : Type 1} → f.Statement.statement M
-exercise-spec =
-    f.Tie.close (f.Tie.spec (omega arith) (omega arith) (omega arith) (omega arith) (omega arith) (omega arith) (omega arith) (omega arith)
-    (λ c. omega arith))

@@ -1,7 +1,0 @@
--- `future` meets its contract: the buffer keeps its length.
-use Rattle.machine.specs.All.{arith}
-use Rattle.test_lists.proofs.future as f
-
-pub future-spec : {M : Type 1} → f.Statement.statement M
-future-spec =
-    f.Tie.close (f.Tie.spec (omega arith) (omega arith) (omega arith) (omega arith) (omega arith) (omega arith) (λ c. omega arith))

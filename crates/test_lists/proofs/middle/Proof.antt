@@ -1,9 +1,0 @@
--- `middle` meets its contract: the buffer keeps its length.
-use Rattle.machine.specs.All.{arith}
-use Rattle.test_lists.proofs.middle as f
-
-pub middle-spec : {M : Type 1} → f.Statement.statement M
-middle-spec =
-    f.Tie.close
-    (f.Tie.spec (omega arith) (omega arith) (omega arith) (omega arith) (omega arith) (omega arith) (λ c. omega arith) (omega arith)
-    (omega arith) (omega arith) (omega arith) (λ c. omega arith))
