@@ -7,7 +7,7 @@ use Rattle.rows_laws.specs.All.{rel, transaction_at}
 use Rattle.rows_laws.proofs.{Chains.TakeFirst.Head, Chains.TakeFirst.nobody, Chains.TakeFirst.somebody, Laws.head-shows}
 use Rattle.state.specs.All.{Rows, rows_of, lists_in, Stands}
 use Rattle.state.proofs.{Sane.Sane, Sanity.taken_of, Sanity.sane-turns}
-use Rattle.clock.specs.{next_events, take_ready, counted, take}
+use Rattle.clock.specs.{counted, take}
 use Rattle.clock.proofs.{ReadyLaws.ready-stands, ClockLaws.events-stands}
 
 -- ---- The count of turns does not matter to the taking

@@ -8,7 +8,7 @@ use Rattle.columns_laws.specs.{max_records, clocks, transactions, blocks, outcom
 use Rattle.columns_laws.proofs as our
 use our.{ByteLists.bytes-trace, Whole.whole-reads, Whole.reads_whole}
 use our.Parsing.{Stands, Between, column-reads, Below, clocks-read}
-use our.Pieces.{rows_of_lem, pieces-count, pieces-ranges, pieces-rise, pieces-bytes, columns-parsed, columns_parse}
+use our.Pieces.{rows_of, pieces-count, pieces-ranges, pieces-rise, pieces-bytes, columns-parsed, columns_parse}
 use Rattle.codec.specs.Answers.{cursor_at}
 
 -- ---- "A trace is taken if the reader takes it whole up to 100,000,000 records and its clocks never fall."
@@ -95,7 +95,7 @@ module _ (l : List Record) (few : length l ≤ max_records) (good : AllInRanges 
       (ap (λ (n : ℕ). times n (trace_field in_force s 1 max_blocks) (cursor_at p2 0 0)) (sym (length-map l (λ r. r.block))) ∙ f3)
       (ap (λ (n : ℕ). times n (trace_field in_force s 0 1) (cursor_at p3 0 0)) (sym (length-map l (λ r. r.outcome))) ∙ f4)
       end
-      ∙ ap some (rows_of_lem l)
+      ∙ ap some (rows_of l)
 
 -- ---- "Column bytes are taken exactly if some such trace produces them."
 

@@ -7,7 +7,7 @@ use Rattle.trace.specs.declared.Reading.TheVariants.{Taken as Read, Refused as U
 use Rattle.trace.proofs.{Reader.past_end, RoundTrip.no-more-end}
 use Rattle.columns_laws.specs.declared.walk.Walk.{Walk}
 use Rattle.columns_laws.specs.declared.measure.Measured.TheVariants.{Taken, Refused}
-use Rattle.columns_laws.specs.{max_records, clocks, transactions, blocks, outcomes, differences, column, never_fall, behind, whole_from, Short, longer, measuring, Totals, totalled, totals, totals_of}
+use Rattle.columns_laws.specs.{max_records, clocks, differences, column, never_fall, behind, whole_from, Short, longer, measuring, Totals, totalled, totals, totals_of}
 use Rattle.columns_laws.proofs.Whole.{whole-refusal, whole-more, whole-none, whole-taken}
 
 -- ---- One record

@@ -193,6 +193,15 @@ module _ (t : Walk) (r : Record) (l : List Record) (next : ℕ) (out : List ℕ)
       (omega (arith, column-cons r.transaction (transactions l), room))
       (omega (arith, column-cons r.block (blocks l), room))
 
+place-first : (n : ℕ) (s : List ℕ) (t : Walk) (out : List ℕ) →
+    place_all (suc n) s t out ≡ place_all n s (place (record_at s t.at) t out).walk (place (record_at s t.at) t out).bytes
+unfolding place_all
+place-first n s t out = refl
+
+place-moved : (n : ℕ) (s : List ℕ) (t : Walk) (out : List ℕ) → place_all n s (moved t out).walk (moved t out).bytes ≡ place_all n s t out
+unfolding moved
+place-moved n s t out = refl
+
 -- all records placed: each column's bytes stand from its place on
 pub placed-all : {s : List ℕ} {at : ℕ} {l : List Record} → Reads s at l → (t : Walk) → t.at ≡ at → (out : List ℕ) → Room t l (length out) →
     place_all (length l) s t out ≡ laid t l out
@@ -206,18 +215,10 @@ placed-all {s = s} (takes {at = at} {next = next} {r = r} {l = l} e more) t h ou
     let rest = placed-all more (behind_one t r next) refl (stored_one t r out) (room-behind t r l next out room) in
     step one ∙ rest ∙ laid-behind t r l next out room
   where
-    first : place_all (suc (length l)) s t out ≡ place_all (length l) s (place (record_at s t.at) t out).walk
-        (place (record_at s t.at) t out).bytes
-    first = unfold place_all in refl
-
-    last : place_all (length l) s (moved (behind_one t r next) (stored_one t r out)).walk
-        (moved (behind_one t r next) (stored_one t r out)).bytes
-        ≡ place_all (length l) s (behind_one t r next) (stored_one t r out)
-    last = unfold moved in refl
-
     step : place (record_at s t.at) t out ≡ moved (behind_one t r next) (stored_one t r out) →
         place_all (suc (length l)) s t out ≡ place_all (length l) s (behind_one t r next) (stored_one t r out)
-    step one = first ∙ ap (λ (p : Moved). place_all (length l) s p.walk p.bytes) one ∙ last
+    step one = place-first (length l) s t out ∙ ap (λ (p : Moved). place_all (length l) s p.walk p.bytes) one
+        ∙ place-moved (length l) s (behind_one t r next) (stored_one t r out)
 
 -- ---- From the beginning
 

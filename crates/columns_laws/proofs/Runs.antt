@@ -1,6 +1,6 @@
 -- Every trace that a run writes is taken: its records lie in the reader's ranges, there is at most one a turn, and their clocks never
 -- fall, since the FEL lies ahead of the clock.
-use Rattle.machine.specs.All.{ℕ, ◌≤◌, ◌<◌, zero-le, arith, true, List, [], ◌∷◌, ◌++◌, reverse, Option, none, some, ◌≡◌, refl, sym, subst, ◌∙◌, length, length-map, length-reverse, leb, le-leb, in_force, max_serial, max_turns, Transaction, Event, Record, trace_bytes_lem, BlockModel, State, Logged, to_rel, record_of, arrive_all, move_clock, next_events, take_first, take_ready, taking, turn, idle, start, run, Validation, accept, reject, validate, records_of, accepted_run, refused_run, outcome_of, outcome, Each, ap}
+use Rattle.machine.specs.All.{ℕ, ◌≤◌, ◌<◌, zero-le, arith, true, List, [], ◌∷◌, ◌++◌, reverse, Option, none, some, ◌≡◌, refl, sym, subst, ◌∙◌, length, length-map, length-reverse, leb, le-leb, in_force, max_serial, max_turns, Transaction, Event, Record, trace_bytes_lem, BlockModel, State, Logged, record_of, move_clock, next_events, take_first, take_ready, taking, turn, idle, start, run, Validation, accept, reject, validate, records_of, accepted_run, refused_run, outcome_of, outcome, Each, ap}
 use Rattle.codec.proofs.Fields.{both_true}
 use Rattle.machine.proofs.{Decoding.Proper.Proper, Decoding.ProperFrom.proper-from, Decoding.ProperFrom.rules-from, Runs.RunLaws.Taken, Runs.RunLaws.each_map, Runs.RunLaws.last-state, Runs.Bounds.bounded, Runs.Ahead.Ahead, Basic.Taking.arrive_all-clock}
 use Rattle.trace.proofs.RoundTrip.{trace-reads-whole}

@@ -3,7 +3,7 @@ use Rattle.machine.specs.All.{clash, ℕ, suc, ◌+◌, ◌*◌, ◌-◌, ◌≤
 use Rattle.codec.specs.{declared.Field.Field, declared.Field.TheVariants.Value, declared.Field.TheVariants.Refused as NoField, Answers.cursor_at, Answers.parsed_of}
 use Rattle.codec.proofs.{Groups.Bytes, Numbers.number_bytes-longest}
 use Rattle.columns_laws.specs.{declared.walk.Walk.Walk, declared.survey.Clocks.TheVariants.End as ClocksEnd, declared.survey.Clocks.TheVariants.Refused as NoClocks, declared.survey.Column.TheVariants.End as ColumnEnd, declared.survey.Column.TheVariants.Refused as NoColumn}
-use Rattle.columns_laws.specs.{max_records, differences, column, rows, clocks_from, column_fields, records_of, taken_columns, sized, ends, found_all, Holds}
+use Rattle.columns_laws.specs.{max_records, column, rows, clocks_from, column_fields, records_of, taken_columns, sized, ends, found_all, Holds}
 use Rattle.columns_laws.proofs as our
 use our.Parsing.{ColumnTaken, column-taken, ClocksTaken, clocks-taken}
 use our.{Finding.found_rows, Pieces.split, Pieces.columns-parsed}
@@ -24,20 +24,22 @@ module _ (s : List ℕ) (lo hi : ℕ) where
     unfolding times parsed_of continue ends
     column-stop told = let more : left ≡ suc (left - 1) = omega arith in rw (more, ← e 0 0, told)
 
-    pub column-step : {v after : ℕ} → f ≡ Value v after →
-        ends (times (left - 1) (trace_field in_force s lo hi) (cursor_at after 0 0))
-        ≡ ends (times left (trace_field in_force s lo hi) (cursor_at next 0 0))
-    column-step {v} {after} told =
-        let more : suc (left - 1) ≡ left = omega arith in
-        one (left - 1) ∙ ap (λ (n : ℕ). ends (times n (trace_field in_force s lo hi) (cursor_at next 0 0))) more
+    column-one : {v after : ℕ} → f ≡ Value v after → (k : ℕ) →
+        ends (times k (trace_field in_force s lo hi) (cursor_at after 0 0))
+        ≡ ends (times (suc k) (trace_field in_force s lo hi) (cursor_at next 0 0))
+    unfolding times parsed_of continue
+    column-one {v} {after} told k = rw (← e 0 0, told) (go (times k (trace_field in_force s lo hi) (cursor_at after 0 0)))
       where
         go : (P : Parsed (List ℕ)) → ends P ≡ ends (continue P (λ l c. parsed (v ∷ l) c))
         go (parsed l c) = unfold ends continue in refl
         go (refused n) = unfold ends continue in refl
 
-        one : (k : ℕ) → ends (times k (trace_field in_force s lo hi) (cursor_at after 0 0))
-            ≡ ends (times (suc k) (trace_field in_force s lo hi) (cursor_at next 0 0))
-        one k = unfold times parsed_of continue in rw (← e 0 0, told) (go (times k (trace_field in_force s lo hi) (cursor_at after 0 0)))
+    pub column-step : {v after : ℕ} → f ≡ Value v after →
+        ends (times (left - 1) (trace_field in_force s lo hi) (cursor_at after 0 0))
+        ≡ ends (times left (trace_field in_force s lo hi) (cursor_at next 0 0))
+    column-step {v} {after} told =
+        let more : suc (left - 1) ≡ left = omega arith in
+        column-one told (left - 1) ∙ ap (λ (n : ℕ). ends (times n (trace_field in_force s lo hi) (cursor_at next 0 0))) more
 
 -- ---- The clocks
 
@@ -52,15 +54,11 @@ module _ (s : List ℕ) where
     unfolding clocks_from parsed_of continue sized
     clocks-stop told = let more : left ≡ suc (left - 1) = omega arith in rw (more, ← e 0 0, told)
 
-    -- a difference is stored, the clock's own length is what the trace will have
-    pub clocks-step : {d after len : ℕ} → f ≡ Value d after → len ≡ length (number_bytes (clock + d)) →
-        sized (size + len) (clocks_from s (left - 1) (clock + d) (cursor_at after 0 0))
-        ≡ sized size (clocks_from s left clock (cursor_at next 0 0))
-    clocks-step {d} {after} {len} told n =
-        let more : suc (left - 1) ≡ left = omega arith in
-        ap (λ (i : ℕ). sized (size + i) (clocks_from s (left - 1) (clock + d) (cursor_at after 0 0))) n
-        ∙ one (left - 1)
-        ∙ ap (λ (i : ℕ). sized size (clocks_from s i clock (cursor_at next 0 0))) more
+    clocks-one : {d after : ℕ} → f ≡ Value d after → (k : ℕ) →
+        sized (size + length (number_bytes (clock + d))) (clocks_from s k (clock + d) (cursor_at after 0 0))
+        ≡ sized size (clocks_from s (suc k) clock (cursor_at next 0 0))
+    unfolding clocks_from parsed_of continue
+    clocks-one {d} {after} told k = rw (← e 0 0, told) (go (clocks_from s k (clock + d) (cursor_at after 0 0)))
       where
         sum : (l : List ℕ) → size + length (number_bytes (clock + d)) + length (column l) ≡ size + length (column ((clock + d) ∷ l))
         sum l = unfold column in rw length-append (omega arith)
@@ -70,9 +68,15 @@ module _ (s : List ℕ) where
         go (parsed l c) = unfold sized continue in rw (sum l)
         go (refused n) = unfold sized continue in refl
 
-        one : (k : ℕ) → sized (size + length (number_bytes (clock + d))) (clocks_from s k (clock + d) (cursor_at after 0 0))
-            ≡ sized size (clocks_from s (suc k) clock (cursor_at next 0 0))
-        one k = unfold clocks_from parsed_of continue in rw (← e 0 0, told) (go (clocks_from s k (clock + d) (cursor_at after 0 0)))
+    -- a difference is stored, the clock's own length is what the trace will have
+    pub clocks-step : {d after len : ℕ} → f ≡ Value d after → len ≡ length (number_bytes (clock + d)) →
+        sized (size + len) (clocks_from s (left - 1) (clock + d) (cursor_at after 0 0))
+        ≡ sized size (clocks_from s left clock (cursor_at next 0 0))
+    clocks-step {d} {after} {len} told n =
+        let more : suc (left - 1) ≡ left = omega arith in
+        ap (λ (i : ℕ). sized (size + i) (clocks_from s (left - 1) (clock + d) (cursor_at after 0 0))) n
+        ∙ clocks-one told (left - 1)
+        ∙ ap (λ (i : ℕ). sized size (clocks_from s i clock (cursor_at next 0 0))) more
 
 -- ---- What the ends say
 

@@ -1,5 +1,8 @@
 // Traces by column (document 02, item 10): definitions (specs/), and that they lead there and back and take every trace of a run (proofs/).
 // The code is crate `columns`; here stand the types that both name.
+
+#![tactic(auto)]
+
 mod measure;
 mod place;
 mod restore;

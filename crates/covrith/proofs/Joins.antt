@@ -6,9 +6,9 @@ use Rattle.join_laws.specs.Joining.{Joining, joined, refused}
 use Rattle.covrith.specs.{join_answer, join_lengths}
 
 module _ (x : Joined) (j : Joining) (e : x ≡ answer j) where
-  pub joined_bytes : (m t : ℕ) → x ≡ Bytes m t → (0 ≡ join_answer j) × (m ∷ t ∷ [] ≡ join_lengths j)
+  pub joined-bytes : (m t : ℕ) → x ≡ Bytes m t → (0 ≡ join_answer j) × (m ∷ t ∷ [] ≡ join_lengths j)
   unfolding answer join_answer join_lengths
-  joined_bytes m t case = go j (sym case ∙ e)
+  joined-bytes m t case = go j (sym case ∙ e)
     where
       go : (j : Joining) → Bytes m t ≡ answer j → (0 ≡ join_answer j) × (m ∷ t ∷ [] ≡ join_lengths j)
       go (joined model tape) h = (refl, cc)

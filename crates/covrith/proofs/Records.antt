@@ -8,10 +8,10 @@ use Rattle.covrith.specs.{read_answer, read_numbers, write_answer, write_count}
 -- ---- Reader
 
 module _ {x : Reading} {wanted : machine.Reading} (e : reading_of x ≡ wanted) (before : List ℕ) where
-  pub read_taken : (r : Record) (next : ℕ) → x ≡ Taken r next →
+  pub read-taken : (r : Record) (next : ℕ) → x ≡ Taken r next →
       (0 ≡ read_answer wanted) × (r.clock ∷ r.transaction ∷ r.block ∷ r.outcome ∷ next ∷ [] ≡ read_numbers wanted before)
   unfolding read_answer read_numbers
-  read_taken r next case = rw (← e, case) (refl, refl)
+  read-taken r next case = rw (← e, case) (refl, refl)
 
   -- a refused read leaves the caller's numbers
   pub read-refused : (n : ℕ) → x ≡ Refused n → (n ≡ read_answer wanted) × (before ≡ read_numbers wanted before)
@@ -19,9 +19,9 @@ module _ {x : Reading} {wanted : machine.Reading} (e : reading_of x ≡ wanted) 
   read-refused n case = rw (← e, case) (refl, refl)
 
   -- 30 at the trace's end
-  pub read_no-more : x ≡ NoMore → (30 ≡ read_answer wanted) × (before ≡ read_numbers wanted before)
+  pub read-no_more : x ≡ NoMore → (30 ≡ read_answer wanted) × (before ≡ read_numbers wanted before)
   unfolding read_answer read_numbers
-  read_no-more case = rw (← e, case) (refl, refl)
+  read-no_more case = rw (← e, case) (refl, refl)
 
 -- ---- Writer
 
@@ -30,6 +30,6 @@ module _ (rest : List ℕ) {x : Written} {wanted : machine.Writing} (e : writing
   unfolding write_answer write_count
   wrote-bytes n case room = rw (← e, case) (refl, sym (length-take-le n rest room))
 
-  pub wrote_nothing : (n : ℕ) → x ≡ Rejected n → (n ≡ write_answer wanted) × (0 ≡ write_count wanted)
+  pub wrote-nothing : (n : ℕ) → x ≡ Rejected n → (n ≡ write_answer wanted) × (0 ≡ write_count wanted)
   unfolding write_answer write_count
-  wrote_nothing n case = rw (← e, case) (refl, refl)
+  wrote-nothing n case = rw (← e, case) (refl, refl)

@@ -4,17 +4,17 @@ use Rattle.tapes_laws.specs.{declared.Made.Made, declared.Made.TheVariants.Bytes
 use Rattle.covrith.specs.{tape_answer, tape_count}
 
 module _ (x : Made) (m : Making) (e : x ≡ answer m) (n : ℕ) where
-  pub made_bytes : x ≡ Bytes n → (0 ≡ tape_answer m) × (n ≡ tape_count m)
+  pub made-bytes : x ≡ Bytes n → (0 ≡ tape_answer m) × (n ≡ tape_count m)
   unfolding answer tape_answer tape_count
-  made_bytes case = go m (sym case ∙ e)
+  made-bytes case = go m (sym case ∙ e)
     where
       go : (m : Making) → Bytes n ≡ answer m → (0 ≡ tape_answer m) × (n ≡ tape_count m)
       go (made b) h = (refl, cc)
       go (refusal k) h = clash (cc)
 
-  pub made_nothing : x ≡ Refused n → (n ≡ tape_answer m) × (0 ≡ tape_count m)
+  pub made-nothing : x ≡ Refused n → (n ≡ tape_answer m) × (0 ≡ tape_count m)
   unfolding answer tape_answer tape_count
-  made_nothing case = go m (sym case ∙ e)
+  made-nothing case = go m (sym case ∙ e)
     where
       go : (m : Making) → Refused n ≡ answer m → (n ≡ tape_answer m) × (0 ≡ tape_count m)
       go (made b) h = clash (cc)

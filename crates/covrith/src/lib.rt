@@ -1,6 +1,8 @@
-// Covrith for other languages: functions that C, or Rust by C's calling convention, can call. include/covrith.h declares them.
-// A slice crosses the boundary as a pointer and a length in elements.
-ghost use Rattle.machine.specs.All.{◌≡◌, length, in_force, count_low, read_record, write_record};
+// Each call of Covrith with its answers as numbers, which can cross to other languages: crate covrith_c exports these functions to C.
+#![tactic(auto)]
+
+ghost use Rattle.std.specs.Prelude.{◌≡◌};
+ghost use Rattle.machine.specs.All.{length, in_force, count_low, read_record, write_record};
 ghost use Rattle.trace.specs.Answers.{entry, after};
 ghost use Rattle.columns_laws.specs.Columns.{to_columns, from_columns};
 ghost use Rattle.engine_laws.specs.Contract.{Contract};
@@ -27,8 +29,7 @@ pub const RECORD: usize = 5;
 pub const LENGTHS: usize = 2;
 
 // One run of a model on a tape. `outcome` gets the eight results.
-#[unsafe(no_mangle)]
-pub extern "C" fn covrith_run(
+pub fn covrith_run(
     model: &[u8],
     tape: &[u8],
     budget: u64,
@@ -54,12 +55,7 @@ pub extern "C" fn covrith_run(
 }
 
 // The record at a position of a trace.
-#[unsafe(no_mangle)]
-pub extern "C" fn covrith_read_record(
-    trace: &[u8],
-    position: usize,
-    numbers: &mut [u64; RECORD],
-) -> u32
+pub fn covrith_read_record(trace: &[u8], position: usize, numbers: &mut [u64; RECORD]) -> u32
     ensures value { result ≡ read_answer (read_record in_force trace.now position) }
     ensures numbers_after { numbers.new ≡ read_numbers (read_record in_force trace.now position) numbers.old }
 {
@@ -74,8 +70,7 @@ pub extern "C" fn covrith_read_record(
 }
 
 // Writes one record into the unused rest of a trace.
-#[unsafe(no_mangle)]
-pub extern "C" fn covrith_write_record(
+pub fn covrith_write_record(
     rest: &mut [u8],
     clock: u64,
     transaction: u64,
@@ -101,16 +96,14 @@ pub extern "C" fn covrith_write_record(
 }
 
 // How many bytes of a trace are below 80 hexadecimal.
-#[unsafe(no_mangle)]
-pub extern "C" fn covrith_count(trace: &[u8]) -> u64
+pub fn covrith_count(trace: &[u8]) -> u64
     ensures { result ≡ count_low trace.now }
 {
     trace::count_low(trace)
 }
 
 // Where a stream begins: `state` gets the state before its first step. 41 for a stream above 511.
-#[unsafe(no_mangle)]
-pub extern "C" fn covrith_stream_start(stream: u32, state: &mut u32) -> u32
+pub fn covrith_stream_start(stream: u32, state: &mut u32) -> u32
     ensures value { result ≡ start_answer (start_of stream) }
     ensures state_after { state.new ≡ start_state (start_of stream) state.old }
 {
@@ -124,16 +117,14 @@ pub extern "C" fn covrith_stream_start(stream: u32, state: &mut u32) -> u32
 }
 
 // The state that follows a state.
-#[unsafe(no_mangle)]
-pub extern "C" fn covrith_stream_step(state: u32) -> u32
+pub fn covrith_stream_step(state: u32) -> u32
     ensures { result ≡ next state }
 {
     streams::step(state)
 }
 
 // A trace to columns.
-#[unsafe(no_mangle)]
-pub extern "C" fn covrith_columns(trace: &[u8], out: &mut [u8], written: &mut u64) -> u32
+pub fn covrith_columns(trace: &[u8], out: &mut [u8], written: &mut u64) -> u32
     ensures value { result ≡ write_answer (to_columns trace.now (length out.old)) }
     ensures written_after { written.new ≡ write_count (to_columns trace.now (length out.old)) }
     ensures out_after { out.new ≡ after (to_columns trace.now (length out.old)) out.old }
@@ -151,8 +142,7 @@ pub extern "C" fn covrith_columns(trace: &[u8], out: &mut [u8], written: &mut u6
 }
 
 // Columns to the trace that produces them.
-#[unsafe(no_mangle)]
-pub extern "C" fn covrith_uncolumns(columns: &[u8], out: &mut [u8], size: &mut u64) -> u32
+pub fn covrith_uncolumns(columns: &[u8], out: &mut [u8], size: &mut u64) -> u32
     ensures value { result ≡ write_answer (from_columns columns.now (length out.old)) }
     ensures size_after { size.new ≡ write_count (from_columns columns.now (length out.old)) }
     ensures out_after { out.new ≡ after (from_columns columns.now (length out.old)) out.old }
@@ -170,8 +160,7 @@ pub extern "C" fn covrith_uncolumns(columns: &[u8], out: &mut [u8], size: &mut u
 }
 
 // Makes a tape from a stream and distributions. `used` gets the number of its bytes, 0 for a refusal.
-#[unsafe(no_mangle)]
-pub extern "C" fn covrith_make_tape(
+pub fn covrith_make_tape(
     stream: u32,
     lists: &[u32],
     numbers: &[f64],
@@ -197,8 +186,7 @@ pub extern "C" fn covrith_make_tape(
 }
 
 // Joins two pairs of model and tape. `lengths` gets how many bytes the joined model and tape have, 0 and 0 for a refusal.
-#[unsafe(no_mangle)]
-pub extern "C" fn covrith_join(
+pub fn covrith_join(
     model1: &[u8],
     tape1: &[u8],
     model2: &[u8],

@@ -23,14 +23,14 @@ const MAX_DRAW_PARTS: u64 = 65_536;
 const TWO_64: f64 = 18446744073709551616.0;
 
 // How many parts a double has; or it is not a whole number of them in range.
-#[derive(Drop)]
+#[derive(Clone, Copy)]
 pub enum Parts {
     Count(u64),
     Refused,
 }
 
 // The two end points of a curve's segment.
-#[derive(Drop)]
+#[derive(Clone, Copy)]
 pub struct Segment {
     pub u0: f64,
     pub time0: f64,

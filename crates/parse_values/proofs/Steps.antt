@@ -6,8 +6,8 @@ use Rattle.layout.specs.All.{term_numbers, signed_terms, sum_numbers, terms, rel
 use Rattle.parse_values.specs.{declared.Place.Place, declared.Taken.Taken, declared.Taken.TheVariants.Number, declared.Taken.TheVariants.Refused as NotTaken, declared.Stored.Stored, declared.Stored.TheVariants.Done, declared.Stored.TheVariants.Refused}
 use Rattle.parse_values.specs.{cursor_of, place_of, Shape, Takes, Stores, plain_shape, number_shape, counted_shape, range_of, term_of, operand_field, term_named, sum_named, term_shape, operand_shape, sum_shape, terms_shape, value_shape, block_term_shape}
 use Rattle.parse_values.proofs as our
-use our.Binds.{takes-refused, takes-known, takes-stop, takes_bind, stores-stop, stores_bind, stores-last, Stores-as}
-use our.Tags.{block-operand, value-operand, operand-numbers, operand-named, Operand-small, relation-number}
+use our.Binds.{takes-refused, takes-known, takes-stop, takes_bind, stores-stop, stores_bind, stores-last, stores_as}
+use our.Tags.{block-operand, value-operand, operand-numbers, operand-named, operand_small, relation-number}
 
 -- ---- Cells and truths
 
@@ -135,7 +135,7 @@ module _ (s : List ℕ) (n : Counts) {p : Place} {to : ℕ} {l₀ l₁ : List �
           held = (
             ap (λ (m : ℕ). Done (place_of (cursor_of after) m)) (named₂ ∙ named₁),
             rw e (sets_then l₀ (tag ∷ []) (((range_of n tag).plus + (v - (range_of n tag).lo)) ∷ []) to (to + 1) (rw t at cells₁) cells₂ refl),
-            (ap length e, Operand-small n v tag fact₁.1 (fact₂.0, fact₂.1)),
+            (ap length e, operand_small n v tag fact₁.1 (fact₂.0, fact₂.1)),
           );
         })))
 
@@ -171,7 +171,7 @@ module _ (s : List ℕ) (n : Counts) (tag base : ℕ) (h : tag ≤ 9) {p : Place
             rw e cells,
             (
               record { grown = rw e (omega arith); within = omega arith },
-              Operand-small n v tag h (fact.0, fact.1),
+              operand_small n v tag h (fact.0, fact.1),
               rw e refl,
             ),
           );
@@ -279,7 +279,7 @@ module _ (s : List ℕ) (inner : Parser Term) (base : ℕ) {p : Place} {l₀ l�
   sum_kept {count} {q} {l₂} {r₂} told k₂ =
       takes_bind (Stores _ _ _ _ _ _) _ _ k₁ told
       (λ named cells fact.
-      Stores-as sum_shape p (base + p.numbers) l₀ _ k₂
+      stores_as sum_shape p (base + p.numbers) l₀ _ k₂
       (λ e c cells₂ fact₂.
       let x : 1 + (count - 1) ≡ terms e = omega (arith, fact₂.2) in
       let g = fact₂.0.grown in (
@@ -393,7 +393,7 @@ module _ (s : List ℕ) (n : Counts) where
           q.named ≡ p.named → l₁ ≡ set l₀ (base + p.numbers) (0 + (tag - 0)) → q.numbers ≡ suc p.numbers → p.numbers < 64 →
           Stores term_shape p (base + p.numbers) l₀ l₂ r₂ P
       whole P k named cells more room =
-          Stores-as term_shape p (base + p.numbers) l₀ P k
+          stores_as term_shape p (base + p.numbers) l₀ P k
           (λ t c cells₂ fact₂.
           let x : 0 + (tag - 0) ≡ tag = omega arith in
           let g = fact₂.0.grown in
@@ -469,5 +469,5 @@ pub value-kept : (s : List ℕ) (n : Counts) (base : ℕ) {p : Place} {l l' : Li
 unfolding value_field
 value-kept s n base {p} {l} {l'} {r} k =
     let z : base + 0 ≡ base = omega arith in
-    Stores-as value_shape p base l _ k
+    stores_as value_shape p base l _ k
     (λ e c cells fact. (refl, rw z at cells, (omega (arith, fact.0.grown, fact.0.within), fact.1)))

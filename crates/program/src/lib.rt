@@ -1,6 +1,10 @@
 // The program of a model (document 01, "Blocks", "Kind and operands as stored"): blocks read with
 // questions 3 and 4 and stored in the tables as they are read; then what question 7 asks of them.
-ghost use Rattle.machine.specs.All.{◌≡◌, true, ◌&&◌, not, ◌+◌, ◌*◌, ◌≤◌, ◌<◌, eqb, max_back, max_blocks, in_force, field, times, operands as operandsField, block_field};
+
+#![tactic(auto)]
+
+ghost use Rattle.std.specs.Prelude.{◌≡◌, ◌&&◌, ◌+◌, ◌*◌, ◌≤◌, ◌<◌};
+ghost use Rattle.machine.specs.All.{true, not, eqb, max_back, max_blocks, in_force, field, times, operands as operandsField, block_field};
 ghost use Rattle.layout.specs.All.{block_width, program_size, tables_size, word_end};
 ghost use Rattle.parse_values.specs.Keeps.{Fits, Stores, cursor_of, number_shape};
 ghost use Rattle.parse_values.specs.Filled.{Filled};

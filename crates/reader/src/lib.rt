@@ -1,12 +1,16 @@
 // The trace reader (document 01, "A trace reader keeps the lent bytes and its position between records; a second call counts the
 // bytes below 80 hexadecimal"): a struct that holds the bytes and a position, and thin functions over the reader of crate `trace`.
-ghost use Rattle.machine.specs.All.{◌≡◌, in_force, count_low, read_record};
+
+#![tactic(auto)]
+
+ghost use Rattle.std.specs.Prelude.{◌≡◌};
+ghost use Rattle.machine.specs.All.{in_force, count_low, read_record};
 ghost use Rattle.trace.specs.Answers.{reading_of};
 ghost use Rattle.reader.specs.Position.{position_behind, moved};
 
 use trace::{Reading, count_low, read_record};
 
-#[derive(Drop)]
+#[derive(Clone, Copy)]
 pub struct Reader<'a> {
     pub bytes: &'a [u8],
     pub at: usize,

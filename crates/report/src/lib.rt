@@ -1,10 +1,14 @@
 // The report, written after the run (document 01, "Report: clock, made, ended; per facility and storage: ..; per queue: ..; the
 // living count and, per living one, number and place"). specs/Numbers of
 // report_laws has its numbers, proofs/Report there that they are the machine's.
+
+#![tactic(auto)]
+
 mod counts;
 mod living;
 
-ghost use Rattle.machine.specs.All.{◌≡◌, [], ◌∷◌, min};
+ghost use Rattle.std.specs.Prelude.{◌≡◌, ◌∷◌};
+ghost use Rattle.machine.specs.All.{[], min};
 ghost use Rattle.rows_laws.specs.All.{Room};
 ghost use Rattle.report_laws.specs.Numbers.{row_numbers};
 ghost use Rattle.report_laws.specs.Writing.{written, put_all};

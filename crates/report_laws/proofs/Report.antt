@@ -1,7 +1,7 @@
 -- The report that is written is the machine's: from what stands for a state, the numbers are those of `report_numbers`, and the
 -- buffer begins with `report_bytes_lem`.
-use Rattle.machine.specs.All.{ℕ, zero, suc, ◌+◌, ◌≤◌, ◌<◌, min, add-zero, arith, ◌≡◌, refl, sym, ap, ap₂, ◌∙◌, List, [], ◌∷◌, ◌++◌, append_assoc, eqb, length, get_or, drop, Server, Queue, idle_server, empty_queue, BlockModel, State, Logged, records_at, server_numbers, queue_numbers, places, by_number, place_numbers, report_numbers, report_bytes_lem, none}
-use Rattle.machine.proofs.Decoding.Proper.{Proper, Names, servers}
+use Rattle.machine.specs.All.{ℕ, zero, suc, ◌+◌, ◌≤◌, ◌<◌, min, add-zero, arith, ◌≡◌, refl, sym, ap, ap₂, ◌∙◌, List, [], ◌∷◌, ◌++◌, append_assoc, eqb, length, get_or, drop, Server, Queue, idle_server, empty_queue, BlockModel, State, Logged, records_at, server_numbers, queue_numbers, places, by_number, place_numbers, report_numbers, report_bytes_lem}
+use Rattle.machine.proofs.Decoding.Proper.{Proper, Names}
 use Rattle.machine.proofs.{Runs.RunLaws.each_map, Conservation.Conservation.Sound, Conservation.Conservation.stands-at-most-once}
 use Rattle.layout.specs.Layout as Layout
 use Rattle.layout.specs.All.{header_of, Represents}

@@ -16,9 +16,9 @@ use Rattle.moves.proofs.BeforeLaws.{next_low, proper-block, operand, stop-done, 
 use Rattle.moves.specs.Motion.{with_tally, go_on_lem, stopped}
 use Rattle.servers_laws.specs.{set_use, check_wels, units_at, member_units, member_fits, member_left, steps, wake_stays, leave_with, taken_off, left_behind, at_once_lem, woken_rows, woken_length, enter_freed, free_one, free_some, ask_release, release_rows, leave_rows}
 use Rattle.servers_laws.proofs as our
-use our.AtOnce.{AtOnce, at_once, walk-everybody, member-fits}
+use our.AtOnce.{AtOnce, at-once, walk-everybody, member-fits}
 use our.Named.{units_of, named}
-use our.Ready.{Ready, wake_ql-same, update-ready, update-current, set-ready, set-current, first_ready, whole_ready, passed-ready, ready-done}
+use our.Ready.{Ready, wake_ql-same, update-ready, update-current, set-ready, set-current, first-ready, whole_ready, passed-ready, ready-done}
 use our.Standing.{high, units_are, holder-is, preempted-is, capacity-is, ready}
 use mathlib.Core.Bool.{◌||◌}
 use Rattle.machine.specs.Rules.{Rules}
@@ -92,7 +92,7 @@ module _ {m : BlockModel} {tape : List (List ℕ)} {tape_bytes tables lists w ta
     pub one-done : Done tape_bytes (free_one tables w tally x (v - 1) units)
         (entering (Moves.go_on_lem t (Execute.check_wels v (wake_ql first_of v s₁))))
     unfolding free_one enter_freed
-    one-done = rw (capacity-is h v low there) (ready-done (first_ready freed freed-now) (next_low h))
+    one-done = rw (capacity-is h v low there) (ready-done (first-ready freed freed-now) (next_low h))
 
     -- LEAVE of n units, the block before which t stands
     module _ (n : ℕ) (is : block_at m t.next ≡ leave v n) (one : 1 ≤ n) where
@@ -173,7 +173,7 @@ module _ {m : BlockModel} {tape : List (List ℕ)} {tape_bytes tables lists w ta
                 (cond b 0 (wake_stays (member_fits tables) (member_left tables m.edition) steps left w (v - 1) (head (v - 1))))))
                 (entering (Moves.go_on_lem t (Execute.check_wels v (wake_ql (part_for m (storage v n) s₁.view) v s₁))))
             go true e =
-                let a = at_once tables w (v - 1) m.edition left waiting e in
+                let a = at-once tables w (v - 1) m.edition left waiting e in
                 rw (← wake_ql-same everybody _ v s₁ (whole_part a)) (ready-done (whole-freed a) (next_low h))
             go false e =
                 rw (← wake_ql-same part _ v s₁ same-part)

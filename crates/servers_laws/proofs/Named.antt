@@ -1,11 +1,10 @@
 -- What a block on a server names, and what the tables and the tally hold of that server.
 use Rattle.machine.specs.All.{ℕ, ◌*◌, ◌-◌, ◌%◌, ◌≤◌, ◌≡◌, refl, sym, ap, ◌∙◌, false, List, [], ◌∷◌, arith, eqb, length, get_or, Server, Code, U, NU, E, NE, F, NF, status, code_index, Block, facility, storage, facts, BlockModel, block_at}
-use Rattle.machine.specs.Term
 use Rattle.machine.proofs.Decoding.Proper.{Proper, Names}
 use Rattle.layout.specs.All.{block_forms, block_numbers, At, Represents}
 use Rattle.layout.proofs.BlockKinds.{Kinds, generating, taking, waiting, arriving, preempting, other, kinds, unasked}
 use Rattle.layout.proofs.Operands.{at-number}
-use Rattle.servers_laws.specs.{server_at, in_use, capacity, status_of, units_at}
+use Rattle.servers_laws.specs.{server_at, status_of, units_at}
 use mathlib.Core.Path.{subst}
 
 -- ---- Units that a block takes

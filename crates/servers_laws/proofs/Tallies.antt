@@ -1,5 +1,5 @@
 -- The tally follows a server's units, its holder, whether by PREEMPT, and the length of its QL, where its statistics are up to date.
-use Rattle.machine.specs.All.{decided, cases, ℕ, zero, suc, ◌+◌, ◌-◌, ◌%◌, ◌≤◌, ◌<◌, min, ◌≡◌, refl, sym, ap, ◌∙◌, ◌≢◌, Bool, true, false, cond, List, [], ◌∷◌, arith, ℕ_discrete, le-ltb, eq-eqb, ne_eqb, eqb, length, get_or, set, drop, length-set, length-drop, get_or-set_same, get_or-set_other, Transaction, bit, Server, idle_server, State, with_use, set_ql}
+use Rattle.machine.specs.All.{ℕ, zero, suc, ◌+◌, ◌-◌, ◌%◌, ◌≤◌, ◌<◌, min, ◌≡◌, refl, sym, ap, ◌∙◌, ◌≢◌, Bool, true, false, cond, List, [], ◌∷◌, arith, ℕ_discrete, le-ltb, eq-eqb, ne_eqb, eqb, length, get_or, set, drop, length-set, length-drop, get_or-set_same, get_or-set_other, Transaction, bit, Server, idle_server, State, with_use, set_ql}
 use Rattle.machine.specs.Term
 use Rattle.machine.specs.Moves as Moves
 use Rattle.machine.proofs.{Lists.Sums.sum-length, Lists.Lines.sum-line_up}
@@ -9,7 +9,7 @@ use Rattle.state.specs.All.{behind, sum_now, longest_now, of_residue, held_in, T
 use Rattle.state.proofs.StandsLaws.{entries-set, waits-set, pair_set, seen_same, seen-set, queueing-same, queueing-set, sampling-same, sampling-set}
 use Rattle.state.proofs.Held.{held-most, held_at, held-set}
 use Rattle.state.proofs.StatisticsLaws.{SamePair, behind-same, sum_same, longest-same, sum_moved, longest-moved}
-use Rattle.servers_laws.specs.{holder, residue_cell, set_held, held_less, held_more, set_use, shorter, longer}
+use Rattle.servers_laws.specs.{residue_cell, set_held, held_less, held_more, set_use, shorter, longer}
 use mathlib.Core.Path.{subst}
 
 -- ---- Lists

@@ -1,5 +1,6 @@
 // One time from a distribution.
-ghost use Rattle.machine.specs.All.{◌≡◌, List, ℕ, ◌+◌, ◌≤◌, ◌<◌};
+ghost use Rattle.std.specs.Prelude.{◌≡◌, ◌+◌, ◌≤◌, ◌<◌};
+ghost use Rattle.machine.specs.All.{List, ℕ};
 ghost use Rattle.floats.specs.Limits.{draw_parts, max_time};
 ghost use Rattle.floats.specs.Value.{Is};
 ghost use Rattle.streams.specs.Stream.{Inside};
@@ -13,7 +14,7 @@ use tapes_laws::Distribution;
 const STATES_PER_PART: u32 = 32_768;
 
 // A time and the state behind its draw.
-#[derive(Drop)]
+#[derive(Clone, Copy)]
 pub struct Drawn {
     pub time: u64,
     pub state: u32,

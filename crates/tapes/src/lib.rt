@@ -1,5 +1,8 @@
 // Tapes from distributions (document 02, item 4): a distribution is held in doubles, is checked, and
 // gives the times of a list from a stream. Its definitions and laws are crate `tapes_laws`.
+
+#![tactic(auto)]
+
 mod draw;
 mod given;
 mod write;

@@ -5,7 +5,7 @@
 
 // "a fixed time, a mean with a half-width, or a curve through points": of a curve, the index of its
 // first double among those that are held beside it.
-#[derive(Drop)]
+#[derive(Clone, Copy)]
 pub enum Distribution {
     Fixed(f64),
     Spread(f64, f64),
@@ -13,28 +13,28 @@ pub enum Distribution {
 }
 
 // A distribution within the rules, or none.
-#[derive(Drop)]
+#[derive(Clone, Copy)]
 pub enum Choice {
     Taken(Distribution),
     Refused,
 }
 
 // A list within the rules: its distribution and its count of times.
-#[derive(Drop)]
+#[derive(Clone, Copy)]
 pub enum Row {
     Given(Distribution, u32),
     Barred,
 }
 
 // How many bytes the tape has; or the number of the refusal.
-#[derive(Drop)]
+#[derive(Clone, Copy)]
 pub enum Made {
     Bytes(usize),
     Refused(u32),
 }
 
 // A point of a curve, in whole numbers.
-#[derive(Drop)]
+#[derive(Clone, Copy)]
 pub enum Point {
     At(u64, u64),
     Refused,

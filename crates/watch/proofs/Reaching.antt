@@ -7,7 +7,7 @@ use Rattle.evaluation.proofs.Found.{at_first}
 use Rattle.watch.specs.{value_marks, marks_size, walked, Walked, reach_value, reach, wait_marks, waits_marks}
 use Rattle.watch.proofs as our
 use our.Walking.{mark_all, term_cells, sum_cells, sum-walked, wait-walked}
-use our.Marking.{all-keeps, all-length, both-marked, sum-marked, sum-others, Marked, term-within, sum-within, each-front, Each-back}
+use our.Marking.{all-keeps, all-length, both-marked, sum-marked, sum-others, Marked, term-within, sum-within, each-front, each_back}
 
 -- the program and the values of a model stand in the tables, each in its row
 pub record Stored (m : BlockModel) (tables : List ℕ) : Type 0 where
@@ -237,5 +237,5 @@ module _ {m : BlockModel} {tables : List ℕ} (stored : Stored m tables) where
         within (some (when_true a r c)) q =
             let both = all (term_cells values a ++ term_cells values c) q in (
               term-within after values a (each-front (λ i. get_or after i 0 ≡ 1) (term_cells values a) _ both),
-              term-within after values c (Each-back (λ i. get_or after i 0 ≡ 1) (term_cells values a) _ both),
+              term-within after values c (each_back (λ i. get_or after i 0 ≡ 1) (term_cells values a) _ both),
             )

@@ -1,0 +1,156 @@
+// Covrith for other languages: functions that C, or Rust by C's calling convention, can call. include/covrith.h declares them.
+// A slice crosses the boundary as a pointer and a length in elements. Each promises what the function of crate covrith promises that it calls.
+#![tactic(auto)]
+
+ghost use Rattle.std.specs.Prelude.{◌≡◌};
+ghost use Rattle.machine.specs.All.{length, in_force, count_low, read_record, write_record};
+ghost use Rattle.trace.specs.Answers.{entry, after};
+ghost use Rattle.columns_laws.specs.Columns.{to_columns, from_columns};
+ghost use Rattle.engine_laws.specs.Contract.{Contract};
+ghost use Rattle.streams.specs.Stream.{next, start_of};
+ghost use Rattle.tapes_laws.specs.Tape.{make_tape, leaves};
+ghost use Rattle.tapes_laws.specs.Contract.{Accepts};
+ghost use Rattle.join_laws.specs.Joining.{join};
+ghost use Rattle.join.specs.Contract.{model_left, tape_left};
+ghost use Rattle.covrith.specs.Answers.{read_answer, read_numbers, write_answer, write_count, start_answer, start_state, tape_answer, tape_count, join_answer, join_lengths};
+ghost use Rattle.covrith.specs.Results.{results};
+
+use covrith::{LENGTHS, OUTCOME, RECORD};
+
+// One run of a model on a tape. `outcome` gets the eight results.
+#[unsafe(no_mangle)]
+pub extern "C" fn covrith_run(
+    model: &[u8],
+    tape: &[u8],
+    budget: u64,
+    work: &mut [u32],
+    trace: &mut [u8],
+    report: &mut [u8],
+    outcome: &mut [u64; OUTCOME],
+)
+    ensures { Contract model.now tape.now budget work.old trace.old report.old
+        (results outcome.new) work.new trace.new report.new }
+{
+    covrith::covrith_run(model, tape, budget, work, trace, report, outcome);
+}
+
+// The record at a position of a trace.
+#[unsafe(no_mangle)]
+pub extern "C" fn covrith_read_record(
+    trace: &[u8],
+    position: usize,
+    numbers: &mut [u64; RECORD],
+) -> u32
+    ensures value { result ≡ read_answer (read_record in_force trace.now position) }
+    ensures numbers_after { numbers.new ≡ read_numbers (read_record in_force trace.now position) numbers.old }
+{
+    covrith::covrith_read_record(trace, position, numbers)
+}
+
+// Writes one record into the unused rest of a trace.
+#[unsafe(no_mangle)]
+pub extern "C" fn covrith_write_record(
+    rest: &mut [u8],
+    clock: u64,
+    transaction: u64,
+    block: u64,
+    outcome: u64,
+    count: &mut u64,
+) -> u32
+    ensures value { result ≡ write_answer (write_record in_force (length rest.old) (entry clock transaction block outcome)) }
+    ensures count_after { count.new ≡ write_count (write_record in_force (length rest.old) (entry clock transaction block outcome)) }
+    ensures rest_after { rest.new ≡ after (write_record in_force (length rest.old) (entry clock transaction block outcome))
+        rest.old }
+{
+    covrith::covrith_write_record(rest, clock, transaction, block, outcome, count)
+}
+
+// How many bytes of a trace are below 80 hexadecimal.
+#[unsafe(no_mangle)]
+pub extern "C" fn covrith_count(trace: &[u8]) -> u64
+    ensures { result ≡ count_low trace.now }
+{
+    covrith::covrith_count(trace)
+}
+
+// Where a stream begins: `state` gets the state before its first step. 41 for a stream above 511.
+#[unsafe(no_mangle)]
+pub extern "C" fn covrith_stream_start(stream: u32, state: &mut u32) -> u32
+    ensures value { result ≡ start_answer (start_of stream) }
+    ensures state_after { state.new ≡ start_state (start_of stream) state.old }
+{
+    covrith::covrith_stream_start(stream, state)
+}
+
+// The state that follows a state.
+#[unsafe(no_mangle)]
+pub extern "C" fn covrith_stream_step(state: u32) -> u32
+    ensures { result ≡ next state }
+{
+    covrith::covrith_stream_step(state)
+}
+
+// A trace to columns.
+#[unsafe(no_mangle)]
+pub extern "C" fn covrith_columns(trace: &[u8], out: &mut [u8], written: &mut u64) -> u32
+    ensures value { result ≡ write_answer (to_columns trace.now (length out.old)) }
+    ensures written_after { written.new ≡ write_count (to_columns trace.now (length out.old)) }
+    ensures out_after { out.new ≡ after (to_columns trace.now (length out.old)) out.old }
+{
+    covrith::covrith_columns(trace, out, written)
+}
+
+// Columns to the trace that produces them.
+#[unsafe(no_mangle)]
+pub extern "C" fn covrith_uncolumns(columns: &[u8], out: &mut [u8], size: &mut u64) -> u32
+    ensures value { result ≡ write_answer (from_columns columns.now (length out.old)) }
+    ensures size_after { size.new ≡ write_count (from_columns columns.now (length out.old)) }
+    ensures out_after { out.new ≡ after (from_columns columns.now (length out.old)) out.old }
+{
+    covrith::covrith_uncolumns(columns, out, size)
+}
+
+// Makes a tape from a stream and distributions. `used` gets the number of its bytes, 0 for a refusal.
+#[unsafe(no_mangle)]
+pub extern "C" fn covrith_make_tape(
+    stream: u32,
+    lists: &[u32],
+    numbers: &[f64],
+    tape: &mut [u8],
+    used: &mut u64,
+) -> u32
+    ensures value { result ≡ tape_answer (make_tape stream lists.now numbers.now (length tape.old)) }
+    ensures used_after { used.new ≡ tape_count (make_tape stream lists.now numbers.now (length tape.old)) }
+    ensures tape_after { tape.new ≡ leaves (make_tape stream lists.now numbers.now (length tape.old))
+        tape.old }
+    ensures accepts { Accepts stream lists.now numbers.now (length tape.old) }
+{
+    covrith::covrith_make_tape(stream, lists, numbers, tape, used)
+}
+
+// Joins two pairs of model and tape. `lengths` gets how many bytes the joined model and tape have, 0 and 0 for a refusal.
+#[unsafe(no_mangle)]
+pub extern "C" fn covrith_join(
+    model1: &[u8],
+    tape1: &[u8],
+    model2: &[u8],
+    tape2: &[u8],
+    model: &mut [u8],
+    tape: &mut [u8],
+    lengths: &mut [u64; LENGTHS],
+) -> u32
+    ensures value { result ≡ join_answer
+        (join model1.now tape1.now model2.now tape2.now (length model.old)
+        (length tape.old)) }
+    ensures lengths_after { lengths.new ≡ join_lengths
+        (join model1.now tape1.now model2.now tape2.now (length model.old)
+        (length tape.old)) }
+    ensures model_after { model.new ≡ model_left
+        (join model1.now tape1.now model2.now tape2.now (length model.old)
+        (length tape.old)) model.old }
+    ensures tape_after { tape.new ≡ tape_left
+        (join model1.now tape1.now model2.now tape2.now (length model.old)
+        (length tape.old)) tape.old }
+{
+    covrith::covrith_join(model1, tape1, model2, tape2, model, tape, lengths)
+}

@@ -1,0 +1,10 @@
+-- `arrive_on` meets its contract: on, then the new one.
+use Rattle.machine.specs.All.{refl, rules}
+use Rattle.moves.specs.Motion.{moved}
+use Rattle.flow_laws.specs.Kinds.{arrive_on}
+use Rattle.flow.proofs.generating.arrive_on.Goals as goal
+
+pub returns : goal.returns
+unfolding arrive_on moved
+returns c =
+    rw (c.one_made.ensures, ← c.read-block.ensures, ← c.go_on-y.ensures) (c.arrives-made.ensures _ refl refl refl)
