@@ -1,5 +1,9 @@
 // One block: its kind chooses the function.
-ghost use Rattle.machine.specs.All.{◌≡◌, ◌<◌, ◌≤◌, max_facilities};
+
+#![tactic(auto)]
+
+ghost use Rattle.std.specs.Prelude.{◌≡◌, ◌<◌, ◌≤◌};
+ghost use Rattle.machine.specs.All.{max_facilities};
 ghost use Rattle.layout.specs.All.{program_size};
 ghost use Rattle.rows_laws.specs.All.{Room, row_count};
 ghost use Rattle.state.specs.All.{rows_of};

@@ -1,5 +1,6 @@
 -- The row machine: the taking of a turn.
-use Rattle.machine.specs.All.{ℕ, ◌+◌, min, cond, List, ltb, get_or, set}
+use Rattle.std.specs.Prelude.{◌+◌}
+use Rattle.machine.specs.All.{ℕ, min, cond, List, ltb, get_or, set}
 use Rattle.layout.specs.All.{most32, most64, clock_moves}
 use Rattle.rows_laws.specs.All.{rel, fel, row_count, serial_end, time_of, first, take_first, Arrived, arrive}
 use Rattle.state.specs.declared.scalars.Scalars.{Scalars}

@@ -1,5 +1,5 @@
 // Who moves in a turn.
-ghost use Rattle.machine.specs.All.{◌≡◌, ◌<◌};
+ghost use Rattle.std.specs.Prelude.{◌≡◌, ◌<◌};
 ghost use Rattle.rows_laws.specs.All.{Room, serial_end};
 ghost use Rattle.state.specs.All.{rows_of};
 ghost use Rattle.clock.specs.Taking.{count_move, move_clock, next_events, ready_scalars, ready_work, take};

@@ -1,5 +1,6 @@
 -- What the answers of this crate say in the paper's terms. The contracts use these.
-use Rattle.machine.specs.All.{ℕ, ◌+◌, ◌-◌, Option, none, some, Number, Cursor, Parsed, parsed, refused}
+use Rattle.std.specs.Prelude.{◌+◌, ◌-◌}
+use Rattle.machine.specs.All.{ℕ, Option, none, some, Number, Cursor, Parsed, parsed, refused}
 use Rattle.codec.specs.{declared.Read.Read, declared.Read.TheVariants.Number as Whole, declared.Read.TheVariants.Refused as Unread, declared.Field.Field, declared.Field.TheVariants.Value, declared.Field.TheVariants.Refused}
 
 -- a number read at a position: its value and how many bytes it takes

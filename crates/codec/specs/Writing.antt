@@ -1,5 +1,6 @@
 -- A number written at a position, if there is room for it.
-use Rattle.machine.specs.All.{ℕ, ◌+◌, cond, List, leb, length, sets, number_bytes}
+use Rattle.std.specs.Prelude.{◌+◌}
+use Rattle.machine.specs.All.{ℕ, cond, List, leb, length, sets, number_bytes}
 
 -- a buffer, and the position after what was written
 pub record Written : Type 0 where

@@ -3,7 +3,8 @@
 
 #![tactic(auto)]
 
-ghost use Rattle.machine.specs.All.{◌≡◌, cond, ℕ, ◌+◌, ◌≤◌, ◌<◌, leb, length, drop, sets, five_groups, max_number_bytes, max_report_number_bytes, max_report_number, groups, within, read_number, number_bytes, field_up_to};
+ghost use Rattle.std.specs.Prelude.{◌≡◌, ◌+◌, ◌≤◌, ◌<◌};
+ghost use Rattle.machine.specs.All.{cond, ℕ, leb, length, drop, sets, five_groups, max_number_bytes, max_report_number_bytes, max_report_number, groups, within, read_number, number_bytes, field_up_to};
 ghost use Rattle.codec.specs.Answers.{number_of, read_as, cursor_at, parsed_of};
 ghost use Rattle.codec.specs.Writing.{written, put};
 

@@ -1,5 +1,6 @@
 // Columns to a trace.
-ghost use Rattle.machine.specs.All.{◌≡◌, ℕ, ◌≤◌, length};
+ghost use Rattle.std.specs.Prelude.{◌≡◌, ◌≤◌};
+ghost use Rattle.machine.specs.All.{ℕ, length};
 ghost use Rattle.trace.specs.Answers.{writing_of, after};
 ghost use Rattle.columns_laws.specs.Columns.{from_columns};
 

@@ -1,5 +1,8 @@
 // Traces by column (document 02, item 10): from a trace to its columns and back. Both walk over their input twice: the first time to
 // judge it and to count the bytes of the output, the second time to write it. Its definitions and laws are crate `columns_laws`.
+
+#![tactic(auto)]
+
 mod from;
 mod measure;
 mod place;

@@ -1,5 +1,6 @@
 // The first walk over a trace: is it taken, how many records has it, and how many bytes has each column?
-ghost use Rattle.machine.specs.All.{◌≡◌, ◌≤◌, in_force, read_record};
+ghost use Rattle.std.specs.Prelude.{◌≡◌, ◌≤◌};
+ghost use Rattle.machine.specs.All.{in_force, read_record};
 ghost use Rattle.trace.specs.Answers.{entry};
 ghost use Rattle.columns_laws.specs.Columns.{max_records, whole_from};
 ghost use Rattle.columns_laws.specs.Walks.{Short, longer, measuring, at_start, totals, totals_of};

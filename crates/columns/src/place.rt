@@ -1,5 +1,5 @@
 // The second walk over a trace: each record's numbers go to the four columns.
-ghost use Rattle.machine.specs.All.{◌≡◌, ◌-◌};
+ghost use Rattle.std.specs.Prelude.{◌≡◌, ◌-◌};
 ghost use Rattle.columns_laws.specs.Walks.{record_at, moved, place, place_all};
 
 use codec::write_number;

@@ -1,5 +1,6 @@
 // The second walk over columns: record by record, the four numbers go to the trace.
-ghost use Rattle.machine.specs.All.{◌≡◌, ◌≤◌, max_clock};
+ghost use Rattle.std.specs.Prelude.{◌≡◌, ◌≤◌};
+ghost use Rattle.machine.specs.All.{max_clock};
 ghost use Rattle.columns_laws.specs.Walks.{number_at, later, moved, restore, restore_all};
 
 use codec::{Read, read_number, write_number};

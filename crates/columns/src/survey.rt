@@ -1,5 +1,6 @@
 // The first walk over columns: are they taken, where does each begin, and how many bytes has the trace?
-ghost use Rattle.machine.specs.All.{◌≡◌, ◌≤◌, in_force, times, trace_field};
+ghost use Rattle.std.specs.Prelude.{◌≡◌, ◌≤◌};
+ghost use Rattle.machine.specs.All.{in_force, times, trace_field};
 ghost use Rattle.codec.specs.Answers.{cursor_at};
 ghost use Rattle.columns_laws.specs.Columns.{max_records, clocks_from};
 ghost use Rattle.columns_laws.specs.Walks.{sized, ends, Surveyed};

@@ -1,5 +1,6 @@
 -- What is claimed of the definitions of item 10, as one statement (proved in ../proofs/Item10.antt).
-use Rattle.machine.specs.All.{ℕ, ◌≤◌, ◌<◌, true, List, some, ◌≡◌, length, get_or, in_force, Record, trace_bytes_lem, written, rejected, outcome}
+use Rattle.std.specs.Prelude.{◌≤◌, ◌<◌, ◌≡◌}
+use Rattle.machine.specs.All.{ℕ, true, List, some, length, get_or, in_force, Record, trace_bytes_lem, written, rejected, outcome}
 use Rattle.trace.specs.Whole.{Reads}
 use Rattle.columns_laws.specs.Columns.{max_records, clocks, column_bytes, never_fall, taken_trace, taken_columns, to_columns, from_columns}
 

@@ -1,5 +1,6 @@
 -- Document 02, item 10, "Traces by column": the bytes of both forms, and which traces and columns are taken.
-use Rattle.machine.specs.All.{ℕ, zero, suc, ◌+◌, ◌-◌, Bool, true, cond, ◌&&◌, List, [], ◌∷◌, ◌++◌, map, Option, none, some, leb, length, in_force, max_clock, max_transaction, max_blocks, number_bytes, Parser, Parsed, parsed, refused, ◌>>=◌, ◌>>◌, give, times, at_end, beginning, Record, trace_bytes_lem, Reading, taken, refusal, no_more, trace_field, read_record, Writing, written, rejected}
+use Rattle.std.specs.Prelude.{◌+◌, ◌-◌, ◌&&◌, ◌∷◌, ◌++◌}
+use Rattle.machine.specs.All.{ℕ, zero, suc, Bool, true, cond, List, [], map, Option, none, some, leb, length, in_force, max_clock, max_transaction, max_blocks, number_bytes, Parser, Parsed, parsed, refused, ◌>>=◌, ◌>>◌, give, times, at_end, beginning, Record, trace_bytes_lem, Reading, taken, refusal, no_more, trace_field, read_record, Writing, written, rejected}
 
 -- "up to 100,000,000 records"
 abbrev pub max_records : ℕ

@@ -1,5 +1,6 @@
 -- The walks of the code over positions: what each step reads, counts and writes.
-use Rattle.machine.specs.All.{ℕ, zero, suc, ◌+◌, ◌*◌, ◌-◌, ◌≤◌, cond, List, [], ◌∷◌, Option, none, some, ◌≡◌, ltb, eqb, length, drop, in_force, max_clock, max_number_bytes, five_groups, number_bytes, read_number, Parsed, parsed, refused, Record, trace_bytes_lem, Reading, taken, refusal, no_more, read_record}
+use Rattle.std.specs.Prelude.{◌+◌, ◌*◌, ◌-◌, ◌≤◌, ◌∷◌, ◌≡◌}
+use Rattle.machine.specs.All.{ℕ, zero, suc, cond, List, [], Option, none, some, ltb, eqb, length, drop, in_force, max_clock, max_number_bytes, five_groups, number_bytes, read_number, Parsed, parsed, refused, Record, trace_bytes_lem, Reading, taken, refusal, no_more, read_record}
 use Rattle.machine.specs.Number as bytes
 use Rattle.codec.specs.Writing as at
 use Rattle.codec.specs.Writing.{put}

@@ -1,4 +1,7 @@
 // The header of a decoded model, with the limits as named constants, and the paper's numbers of kinds, ends and refusals.
+
+#![tactic(auto)]
+
 pub mod ends;
 pub mod kinds;
 mod model;

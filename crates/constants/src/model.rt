@@ -1,5 +1,6 @@
 // The header of a model, and the limits of documents 01 and 02 as its constants.
-ghost use Rattle.machine.specs.All.{◌≡◌, max_facilities, max_storages, max_capacity, max_queues, max_values, max_lists, max_counter, max_blocks, max_living, max_samples, max_time, max_priority, parameter_count, max_terminate, max_split, max_back, max_assemble, max_constant, max_terms, max_value_numbers, max_brackets, max_mentions, max_serial, max_turns, record_room, max_clock, max_transaction, max_number_bytes, max_number, five_groups, max_report_number_bytes, max_report_number, work_numbers, report_room};
+ghost use Rattle.std.specs.Prelude.{◌≡◌};
+ghost use Rattle.machine.specs.All.{max_facilities, max_storages, max_capacity, max_queues, max_values, max_lists, max_counter, max_blocks, max_living, max_samples, max_time, max_priority, parameter_count, max_terminate, max_split, max_back, max_assemble, max_constant, max_terms, max_value_numbers, max_brackets, max_mentions, max_serial, max_turns, record_room, max_clock, max_transaction, max_number_bytes, max_number, five_groups, max_report_number_bytes, max_report_number, work_numbers, report_room};
 
 // The header of a decoded model: how many there are of each thing, and the counter.
 #[derive(Clone, Copy)]

@@ -1,5 +1,6 @@
 -- What the functions for other languages answer, in the numbers that cross the boundary.
-use Rattle.machine.specs.All.{ℕ, List, [], ◌∷◌, length, Reading, taken, refusal, no_more, Writing, written, rejected}
+use Rattle.std.specs.Prelude.{◌∷◌}
+use Rattle.machine.specs.All.{ℕ, List, [], length, Reading, taken, refusal, no_more, Writing, written, rejected}
 use Rattle.streams.specs.declared.Started.{Started}
 use Rattle.streams.specs.declared.Started.TheVariants.{State, Refused}
 use Rattle.tapes_laws.specs.Tape.{Making, made, refusal as unmade}

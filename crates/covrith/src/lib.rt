@@ -1,7 +1,8 @@
 // Each call of Covrith with its answers as numbers, which can cross to other languages: crate covrith_c exports these functions to C.
 #![tactic(auto)]
 
-ghost use Rattle.machine.specs.All.{◌≡◌, length, in_force, count_low, read_record, write_record};
+ghost use Rattle.std.specs.Prelude.{◌≡◌};
+ghost use Rattle.machine.specs.All.{length, in_force, count_low, read_record, write_record};
 ghost use Rattle.trace.specs.Answers.{entry, after};
 ghost use Rattle.columns_laws.specs.Columns.{to_columns, from_columns};
 ghost use Rattle.engine_laws.specs.Contract.{Contract};

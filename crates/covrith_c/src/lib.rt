@@ -2,7 +2,8 @@
 // A slice crosses the boundary as a pointer and a length in elements. Each promises what the function of crate covrith promises that it calls.
 #![tactic(auto)]
 
-ghost use Rattle.machine.specs.All.{◌≡◌, length, in_force, count_low, read_record, write_record};
+ghost use Rattle.std.specs.Prelude.{◌≡◌};
+ghost use Rattle.machine.specs.All.{length, in_force, count_low, read_record, write_record};
 ghost use Rattle.trace.specs.Answers.{entry, after};
 ghost use Rattle.columns_laws.specs.Columns.{to_columns, from_columns};
 ghost use Rattle.engine_laws.specs.Contract.{Contract};

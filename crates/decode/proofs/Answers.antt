@@ -6,7 +6,7 @@ use Rattle.watch.specs.Watch.{watched}
 use Rattle.decode.specs.{declared.Decoded.Decoded, declared.Decoded.TheVariants.Model as Accepted, declared.Decoded.TheVariants.Refused, declared.Tape.Tape, declared.Tape.TheVariants.At, declared.Tape.TheVariants.Refused as NoTape, Models.Models, Lists.Lists, Decodes.Decodes}
 use Rattle.decode.specs.{tables_of, ProperModel, empty_lists, Filled, refusal_of}
 use Rattle.decode.proofs as our
-use our.Represented.{all_tables, block-stays, block-small, Value-stays, value-small, capacity-stays, edition-stays, all-watching, all-sharing}
+use our.Represented.{all_tables, block-stays, block-small, value_stays, value-small, capacity-stays, edition-stays, all-watching, all-sharing}
 use our.Lists.{tape-length, all-begin, all-counts}
 
 represented : (m : BlockModel) (tape : List (List ℕ)) (bytes cells : List ℕ) → (w : ProperModel m) → length tape ≡ m.lists
@@ -19,7 +19,7 @@ represented m tape bytes cells w n f =
       edition = edition-stays m w;
       blocks = block-stays m w;
       small-blocks = block-small m w;
-      values = Value-stays m w;
+      values = value_stays m w;
       small-values = value-small m w;
       capacities = λ v h. capacity-stays m w v h;
       watching = all-watching m w;

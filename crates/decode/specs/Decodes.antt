@@ -1,6 +1,7 @@
 -- What decoding gives, by cases on the machine's answer to the questions: the number of the first "no"; or the header of the
 -- model, with tables and list cells that represent model and tape.
-use Rattle.machine.specs.All.{ℕ, ◌≡◌, List, Validation, accept, reject}
+use Rattle.std.specs.Prelude.{◌≡◌}
+use Rattle.machine.specs.All.{ℕ, List, Validation, accept, reject}
 use Rattle.layout.specs.All.{header_of, Represents}
 use Rattle.decode.specs.{declared.Decoded.Decoded, declared.Decoded.TheVariants.Model as Accepted, declared.Decoded.TheVariants.Refused}
 

@@ -1,5 +1,6 @@
 -- The sample lists of a tape: for list k (from 0) cell k is the byte where its times begin, and cell 16 + k their count.
-use Rattle.machine.specs.All.{ℕ, suc, ◌+◌, ◌≡◌, List, [], ◌∷◌, length, set, replicate, in_force, Cursor, Parsed, parsed, refused, Parser, field_up_to}
+use Rattle.std.specs.Prelude.{◌+◌, ◌≡◌, ◌∷◌}
+use Rattle.machine.specs.All.{ℕ, suc, List, [], length, set, replicate, in_force, Cursor, Parsed, parsed, refused, Parser, field_up_to}
 use Rattle.layout.specs.Layout as Layout
 use Rattle.layout.specs.All.{TimesAt}
 use Rattle.decode.specs.{declared.Tape.Tape, declared.Tape.TheVariants.At, declared.Tape.TheVariants.Refused}

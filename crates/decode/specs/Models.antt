@@ -1,5 +1,6 @@
 -- The whole model: its cells of the tables, and the answer to questions 3 to 7.
-use Rattle.machine.specs.All.{ℕ, ◌≤◌, ◌≡◌, List, length, in_force, Parsed, parsed, refused, BlockModel}
+use Rattle.std.specs.Prelude.{◌≤◌, ◌≡◌}
+use Rattle.machine.specs.All.{ℕ, List, length, in_force, Parsed, parsed, refused, BlockModel}
 use Rattle.machine.specs.Limits as Limits
 use Rattle.layout.specs.Layout as Layout
 use Rattle.layout.specs.All.{sum_numbers, block_numbers, header_of}

@@ -1,5 +1,6 @@
 -- A model read in three parts, each with its header and its cells of the tables.
-use Rattle.machine.specs.All.{ℕ, ◌+◌, ◌≤◌, ◌≡◌, List, length, set, replicate, sets, Parsed, parsed, refused, Parser, continue, field, times, Sum, Block, in_force, Counts, value_fields, block_field}
+use Rattle.std.specs.Prelude.{◌+◌, ◌≤◌, ◌≡◌}
+use Rattle.machine.specs.All.{ℕ, List, length, set, replicate, sets, Parsed, parsed, refused, Parser, continue, field, times, Sum, Block, in_force, Counts, value_fields, block_field}
 use Rattle.machine.specs.Limits as Limits
 use Rattle.constants.specs.declared.model.Model.{Model}
 use Rattle.layout.specs.Layout as Layout

@@ -1,6 +1,10 @@
 // Validation and decoding of a model and its tape (document 01, questions 1 to 10 in their order).
 // What a run needs of them is left in two arrays that the caller lends (crate `layout`).
-ghost use Rattle.machine.specs.All.{◌≡◌, ℕ, ◌+◌, ◌*◌, ◌≤◌, ◌<◌, replicate, sets, in_force, field, times, max_facilities, max_capacity, max_lists, max_time, list_field, model_fields, model_of_lem, tape_of, beginning, validate as answer};
+
+#![tactic(auto)]
+
+ghost use Rattle.std.specs.Prelude.{◌≡◌, ◌+◌, ◌*◌, ◌≤◌, ◌<◌};
+ghost use Rattle.machine.specs.All.{ℕ, replicate, sets, in_force, field, times, max_facilities, max_capacity, max_lists, max_time, list_field, model_fields, model_of_lem, tape_of, beginning, validate as answer};
 ghost use Rattle.codec.specs.Answers.{parsed_of};
 ghost use Rattle.parse_values.specs.Keeps.{cursor_of, number_shape};
 ghost use Rattle.parse_values.specs.Filled.{Filled};

@@ -1,6 +1,6 @@
 // "Before each turn, in this order: .." the end of the turn before, dry, the limits on serials and turns, the budget, the room
 // for a record.
-ghost use Rattle.machine.specs.All.{◌≡◌};
+ghost use Rattle.std.specs.Prelude.{◌≡◌};
 ghost use Rattle.rows_laws.specs.All.{Room};
 ghost use Rattle.engine_laws.specs.Ends.{nobody_rows, worn_rows, full_rows, limit_rows, end_rows};
 

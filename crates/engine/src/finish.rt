@@ -1,5 +1,6 @@
 // The results of a run.
-ghost use Rattle.machine.specs.All.{◌≡◌, ◌≤◌, length, max_blocks, max_facilities};
+ghost use Rattle.std.specs.Prelude.{◌≡◌, ◌≤◌};
+ghost use Rattle.machine.specs.All.{length, max_blocks, max_facilities};
 ghost use Rattle.rows_laws.specs.All.{Room};
 ghost use Rattle.state.specs.All.{rows_of};
 ghost use Rattle.start.specs.Start.{start_rows};

@@ -1,6 +1,7 @@
 // A herd: those who come back one after the other and wait again, to a WAITIF or an ENTER. Their turns change nothing that a WAITIF reads,
 // so that it is asked once for all of them.
-ghost use Rattle.machine.specs.All.{◌≡◌, ◌+◌, ◌≤◌, min, List, ℕ};
+ghost use Rattle.std.specs.Prelude.{◌≡◌, ◌+◌, ◌≤◌};
+ghost use Rattle.machine.specs.All.{min, List, ℕ};
 ghost use Rattle.rows_laws.specs.All.{Room};
 ghost use Rattle.engine_laws.specs.Turns.{turns_left, Onward, WhereAllWait, WhereEnter};
 

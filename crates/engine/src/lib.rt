@@ -1,5 +1,8 @@
 // The engine: one run of a model on a tape (document 01), from bytes to trace, report and eight numbers. specs/Contract of engine_laws has
 // what `run` promises for all inputs and buffer lengths.
+
+#![tactic(auto)]
+
 mod ends;
 mod finish;
 mod herds;

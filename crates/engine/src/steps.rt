@@ -1,5 +1,6 @@
 // The turns of a run, until an end.
-ghost use Rattle.machine.specs.All.{◌≡◌, ◌≤◌, length, max_blocks, max_facilities};
+ghost use Rattle.std.specs.Prelude.{◌≡◌, ◌≤◌};
+ghost use Rattle.machine.specs.All.{length, max_blocks, max_facilities};
 ghost use Rattle.rows_laws.specs.All.{Room};
 ghost use Rattle.state.specs.All.{rows_of};
 ghost use Rattle.turn_laws.specs.Turn.{traced};

@@ -3,7 +3,8 @@
 -- a shorter run has in common with a longer one.
 --
 -- Left free by the papers: the work buffer after an accepted run, of which nothing is said (a lent slice keeps its length).
-use Rattle.machine.specs.All.{ℕ, ◌≤◌, ◌≡◌, List, ◌++◌, length, take, drop, true, Rules, in_force, max_report_number, Record, trace_bytes_lem, BlockModel, accept, validate, run, report_numbers, Outcome, records_of, outcome, Each, Proved, Keeping, InModel, LivingListed}
+use Rattle.std.specs.Prelude.{◌≤◌, ◌≡◌, ◌++◌}
+use Rattle.machine.specs.All.{ℕ, List, length, take, drop, true, Rules, in_force, max_report_number, Record, trace_bytes_lem, BlockModel, accept, validate, run, report_numbers, Outcome, records_of, outcome, Each, Proved, Keeping, InModel, LivingListed}
 use Rattle.machine.specs.Prefix.{Prefix, StatesAreRuns}
 use Rattle.trace.specs.Whole.{Reads}
 use Rattle.engine_laws.specs.declared.outcome.Outcome.{Outcome as Results}

@@ -1,5 +1,6 @@
 -- The row machine: the end before a turn, from scalars and work buffer.
-use Rattle.machine.specs.All.{ℕ, ◌+◌, Bool, false, cond, ◌||◌, List, ltb, leb, eqb, max_serial, max_turns, record_room}
+use Rattle.std.specs.Prelude.{◌+◌, ◌||◌}
+use Rattle.machine.specs.All.{ℕ, Bool, false, cond, List, ltb, leb, eqb, max_serial, max_turns, record_room}
 use Rattle.rows_laws.specs.All.{rel, fel, row_count, first}
 use Rattle.state.specs.declared.scalars.Scalars.{Scalars}
 

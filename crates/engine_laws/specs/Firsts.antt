@@ -2,7 +2,8 @@
 -- that a full walk finds, and none exactly when the list is empty". The machine's lists are plain and keep no first, so this is of the run
 -- over rows, whose last state the code leaves: of every state before a turn and after it. `KeepsFirsts` is the claim; proved in
 -- proofs/FirstsKept.
-use Rattle.machine.specs.All.{ℕ, ◌<◌, ◌≡◌, List, [], ◌∷◌, length, replicate, in_force, BlockModel, State, states, steps, accept, validate}
+use Rattle.std.specs.Prelude.{◌<◌, ◌≡◌, ◌∷◌}
+use Rattle.machine.specs.All.{ℕ, List, [], length, replicate, in_force, BlockModel, State, states, steps, accept, validate}
 use Rattle.constants.specs.declared.model.Model.{Model}
 use Rattle.layout.specs.All.{tally_size, header_of, Represents}
 use Rattle.rows_laws.specs.All.{wsl, rel, fel, outranks, sooner, KeptFirst, KeptHead}

@@ -1,5 +1,6 @@
 -- The row machine: a whole run of a decoded model, from the start to the results.
-use Rattle.machine.specs.All.{ℕ, ◌≡◌, List, length, replicate}
+use Rattle.std.specs.Prelude.{◌≡◌}
+use Rattle.machine.specs.All.{ℕ, List, length, replicate}
 use Rattle.constants.specs.declared.model.Model.{Model}
 use Rattle.layout.specs.All.{tally_size}
 use Rattle.state.specs.declared.scalars.Scalars.{Scalars}

@@ -1,6 +1,7 @@
 -- Steps until an end, of anything that tells the end before a step, takes one and keeps the end: the machine's `run_from` over
 -- rows is an instance.
-use Rattle.machine.specs.All.{ℕ, zero, suc, true, false, List, [], ◌∷◌, eqb}
+use Rattle.std.specs.Prelude.{◌∷◌}
+use Rattle.machine.specs.All.{ℕ, zero, suc, true, false, List, [], eqb}
 
 module _ {A : Type 0} (end_of : A → ℕ) (step : A → A) (close : ℕ → A → A) where
   unfoldable pub run_steps : ℕ → A → A

@@ -1,5 +1,6 @@
 -- The row machine: the turns of a run.
-use Rattle.machine.specs.All.{ℕ, ◌-◌, ◌≡◌, true, min, List, max_turns, steps}
+use Rattle.std.specs.Prelude.{◌-◌, ◌≡◌}
+use Rattle.machine.specs.All.{ℕ, true, min, List, max_turns, steps}
 use Rattle.constants.specs.declared.model.Model.{Model}
 use Rattle.state.specs.{declared.scalars.Scalars.Scalars, All.put_end, All.put_turns, All.rows_of}
 use Rattle.rows_laws.specs.All.{row_count}

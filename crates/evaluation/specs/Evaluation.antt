@@ -1,7 +1,7 @@
 -- Evaluation over the numbers of the tables and the tally, as the code does it. It asks nothing of them: an index past an end
 -- reads 0, a mention of a value that is not lower is worth 0, and so is a bracket deeper than the limit.
-use Rattle.machine.specs.All.{ℕ, zero, suc, ◌+◌, ◌-◌, ◌*◌, ◌/◌, Bool, cond, not, List, ltb, eqb, length, get_or, max_blocks, max_facilities, max_storages, max_queues, max_brackets, signed, wrap, eq_z, one_if}
-use Rattle.std.specs.Prelude.{ℤ, pos, ◌+ℤ◌, ◌-ℤ◌, neg_ℤ, int_le, int_lt}
+use Rattle.machine.specs.All.{ℕ, zero, suc, Bool, cond, not, List, ltb, eqb, length, get_or, max_blocks, max_facilities, max_storages, max_queues, max_brackets, signed, wrap, eq_z, one_if}
+use Rattle.std.specs.Prelude.{ℤ, pos, ◌+ℤ◌, ◌-ℤ◌, neg_ℤ, int_le, int_lt, ◌+◌, ◌-◌, ◌*◌, ◌/◌}
 use Rattle.layout.specs.Layout as Layout
 
 -- ---- Relations by their number

@@ -1,5 +1,6 @@
 -- How deep brackets open: "four open brackets (each tag 10 or 11 opens one)" in a value, none in a term of a block.
-use Rattle.machine.specs.All.{ℕ, ◌-◌, Bool, true, ◌&&◌, T, ltb, get_or, max_brackets, Term, constant, minus_constant, parameter, clock_term, entries_of, content_of, units_in_use, units_free, facility_in_use, value, comparison, bracket, Sum, nothing, plus, minus, Block, terminate, facts, BlockModel, all_of}
+use Rattle.std.specs.Prelude.{◌-◌, ◌&&◌}
+use Rattle.machine.specs.All.{ℕ, Bool, true, T, ltb, get_or, max_brackets, Term, constant, minus_constant, parameter, clock_term, entries_of, content_of, units_in_use, units_free, facility_in_use, value, comparison, bracket, Sum, nothing, plus, minus, Block, terminate, facts, BlockModel, all_of}
 
 -- at most d brackets open, one in the other
 unfoldable mutual

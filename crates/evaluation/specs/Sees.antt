@@ -1,7 +1,7 @@
 -- When tables and tally show what a view of the machine holds. All of it but the clock is below 2 to the 31, so that it is a signed
 -- number.
-use Rattle.machine.specs.All.{ℕ, ◌+◌, ◌≤◌, ◌<◌, List, [], ◌∷◌, ◌≡◌, length, get_or, max_blocks, max_queues, idle_server, empty_queue, View, signed}
-use Rattle.std.specs.Prelude.{ℤ}
+use Rattle.machine.specs.All.{ℕ, List, [], length, get_or, max_blocks, max_queues, idle_server, empty_queue, View, signed}
+use Rattle.std.specs.Prelude.{ℤ, ◌+◌, ◌≤◌, ◌<◌, ◌∷◌, ◌≡◌}
 use Rattle.layout.specs.Layout as Layout
 use Rattle.evaluation.specs.Evaluation.{servers}
 

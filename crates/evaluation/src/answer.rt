@@ -1,6 +1,6 @@
 // What a term is worth and the position after its numbers, as one number of 64 bits, which travels in a register: below, 32 bits
 // with a sign; above, the position.
-ghost use Rattle.machine.specs.All.{◌≡◌};
+ghost use Rattle.std.specs.Prelude.{◌≡◌};
 ghost use Rattle.evaluation.specs.Evaluation.{worth_at, unpacked};
 
 use crate::wrapping::{bits, low_signed};

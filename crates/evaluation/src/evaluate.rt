@@ -1,5 +1,6 @@
 // Sums and terms, which call each other: bracket depth, value number and remaining terms fall.
-ghost use Rattle.machine.specs.All.{◌≡◌, ◌≤◌, length, get_or, one_if};
+ghost use Rattle.std.specs.Prelude.{◌≡◌, ◌≤◌};
+ghost use Rattle.machine.specs.All.{length, get_or, one_if};
 ghost use Rattle.layout.specs.All.{tables_size, most32};
 ghost use Rattle.evaluation.specs.Evaluation.{unpacked, joined, judged, simple_term, sum_from, comparison_from, value_below, term_of, term_at, compare_at};
 

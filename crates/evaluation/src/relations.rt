@@ -1,5 +1,5 @@
 // Document 01, "Relations: 1 =, 2 ≠, 3 <, 4 ≤, 5 >, 6 ≥, signed."
-ghost use Rattle.machine.specs.All.{◌≡◌};
+ghost use Rattle.std.specs.Prelude.{◌≡◌};
 ghost use Rattle.evaluation.specs.Evaluation.{related_by};
 
 // Is a in this relation to b? Any other number counts as 6.

@@ -1,6 +1,6 @@
 // Terms of tags 0 to 8: a tag and a number, with no sum inside.
-ghost use Rattle.machine.specs.All.{◌≡◌, ◌≤◌, ltb, one_if};
-ghost use Rattle.std.specs.Prelude.{neg_ℤ};
+ghost use Rattle.machine.specs.All.{ltb, one_if};
+ghost use Rattle.std.specs.Prelude.{neg_ℤ, ◌≡◌, ◌≤◌};
 ghost use Rattle.layout.specs.Layout as Layout;
 ghost use Rattle.evaluation.specs.Evaluation as Evaluation;
 ghost use Rattle.evaluation.specs.Evaluation.{within, servers, free_units, simple_term};

@@ -1,6 +1,5 @@
 // Document 01, "sums and differences wrap in signed 32 bits".
-ghost use Rattle.machine.specs.All.{◌≡◌};
-ghost use Rattle.std.specs.Prelude.{pos, ◌+ℤ◌, ◌-ℤ◌};
+ghost use Rattle.std.specs.Prelude.{pos, ◌+ℤ◌, ◌-ℤ◌, ◌≡◌};
 ghost use Rattle.machine.specs.Term as Term;
 
 // The least bits of a negative number.

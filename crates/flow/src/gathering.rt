@@ -1,5 +1,6 @@
 // 18 ASSEMBLE n.
-ghost use Rattle.machine.specs.All.{◌≡◌, ◌+◌, ◌<◌, ◌≤◌, max_facilities};
+ghost use Rattle.std.specs.Prelude.{◌≡◌, ◌+◌, ◌<◌, ◌≤◌};
+ghost use Rattle.machine.specs.All.{max_facilities};
 ghost use Rattle.layout.specs.All.{program_size};
 ghost use Rattle.rows_laws.specs.All.{Room, list_count, row_count};
 ghost use Rattle.moves.specs.Motion.{moved};

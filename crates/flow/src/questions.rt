@@ -1,5 +1,6 @@
 // The questions of GENERATE, ADVANCE, SPLIT and TERMINATE: 0 where the answer is yes, else the number of the end.
-ghost use Rattle.machine.specs.All.{◌≡◌, ◌≤◌, length, max_facilities, bit};
+ghost use Rattle.std.specs.Prelude.{◌≡◌, ◌≤◌};
+ghost use Rattle.machine.specs.All.{length, max_facilities, bit};
 ghost use Rattle.layout.specs.All.{tally_size};
 ghost use Rattle.flow_laws.specs.Questions.{ask_room, ask_time, first_no, ask_arrival, held_by, ask_holding};
 

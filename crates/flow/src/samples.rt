@@ -1,5 +1,6 @@
 // The next time of a sample list: where it stands in the tape and how many are left are numbers of the tally.
-ghost use Rattle.machine.specs.All.{◌≡◌, ◌+◌, get_or};
+ghost use Rattle.std.specs.Prelude.{◌≡◌, ◌+◌};
+ghost use Rattle.machine.specs.All.{get_or};
 ghost use Rattle.layout.specs.Layout as Layout;
 ghost use Rattle.flow_laws.specs.Samples.{sample_at, next_sample, use_time};
 

@@ -1,5 +1,6 @@
 // Rows on no list go to the FEL or to REL with a fresh serial; new rows for both.
-ghost use Rattle.machine.specs.All.{◌≡◌, true, ◌<◌, ◌≤◌};
+ghost use Rattle.std.specs.Prelude.{◌≡◌, ◌<◌, ◌≤◌};
+ghost use Rattle.machine.specs.All.{true};
 ghost use Rattle.rows_laws.specs.All.{Room, row_count};
 ghost use Rattle.moves.specs.Motion.{moved, next32};
 ghost use Rattle.state.specs.All.{put_serial, rows_of};

@@ -1,5 +1,6 @@
 // 3 TERMINATE a.
-ghost use Rattle.machine.specs.All.{◌≡◌, cond, ◌+◌, ◌<◌, ◌≤◌, leb, max_facilities};
+ghost use Rattle.std.specs.Prelude.{◌≡◌, ◌+◌, ◌<◌, ◌≤◌};
+ghost use Rattle.machine.specs.All.{cond, leb, max_facilities};
 ghost use Rattle.layout.specs.All.{program_size};
 ghost use Rattle.rows_laws.specs.All.{Room, row_count};
 ghost use Rattle.moves.specs.Motion.{moved};

@@ -1,6 +1,7 @@
 -- The row machine: 18 ASSEMBLE n (document 02, item 8). `at` is where the block stands in the tables. A gatherer's row holds how many of
 -- its family have come in the place of its next block.
-use Rattle.machine.specs.All.{ℕ, ◌+◌, ◌-◌, ◌%◌, cond, List, eqb, ltb, get_or, max_blocks}
+use Rattle.std.specs.Prelude.{◌+◌, ◌-◌, ◌%◌}
+use Rattle.machine.specs.All.{ℕ, cond, List, eqb, ltb, get_or, max_blocks}
 use Rattle.rows_laws.specs.All.{number_field, next_field, family_field, gatherers, row_count, load, read, write, set_returning, remove_at, family_cell, free_row}
 use Rattle.state.specs.{declared.scalars.Scalars.Scalars, All.put_moving, All.put_ended, All.put_note}
 use Rattle.moves.specs.Motion.{Moved, moved, in_order_lem, next32, begin_wait, stopped}

@@ -1,5 +1,6 @@
 -- The row machine: the five kinds. `at` is where the block stands in the tables; its operands follow its kind.
-use Rattle.machine.specs.All.{ℕ, zero, suc, ◌+◌, ◌*◌, ◌-◌, ◌%◌, cond, List, eqb, leb, get_or}
+use Rattle.std.specs.Prelude.{◌+◌, ◌*◌, ◌-◌, ◌%◌}
+use Rattle.machine.specs.All.{ℕ, zero, suc, cond, List, eqb, leb, get_or}
 use Rattle.layout.specs.All.{list_left}
 use Rattle.rows_laws.specs.All.{number_field, standing_field, next_field, row_count, read, write, free_row}
 use Rattle.state.specs.declared.scalars.Scalars.{Scalars}

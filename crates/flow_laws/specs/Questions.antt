@@ -1,6 +1,7 @@
 -- The questions of GENERATE, ADVANCE, SPLIT and TERMINATE, asked of the scalars and the tally: 0 where the answer is yes, else the number
 -- of the end.
-use Rattle.machine.specs.All.{ℕ, zero, suc, ◌+◌, ◌-◌, ◌%◌, cond, List, eqb, ltb, leb, length, get_or, max_living, max_clock, bit}
+use Rattle.std.specs.Prelude.{◌+◌, ◌-◌, ◌%◌}
+use Rattle.machine.specs.All.{ℕ, zero, suc, cond, List, eqb, ltb, leb, length, get_or, max_living, max_clock, bit}
 use Rattle.layout.specs.All.{holder, residues, held, tally_size}
 use Rattle.state.specs.declared.scalars.Scalars.{Scalars}
 use Rattle.flow_laws.specs.Sending.{plus32, plus64}

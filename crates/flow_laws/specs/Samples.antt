@@ -1,5 +1,6 @@
 -- The next time of a sample list: the number that stands in the tape where the tally says, read and then used.
-use Rattle.machine.specs.All.{ℕ, ◌+◌, ◌-◌, List, Option, none, some, get_or, set, drop, max_number_bytes, five_groups, Number, read_number}
+use Rattle.std.specs.Prelude.{◌+◌, ◌-◌}
+use Rattle.machine.specs.All.{ℕ, List, Option, none, some, get_or, set, drop, max_number_bytes, five_groups, Number, read_number}
 use Rattle.layout.specs.All.{list_at_lem, list_left}
 use Rattle.flow_laws.specs.declared.samples.Sample.{Sample}
 

@@ -1,5 +1,6 @@
 -- The row machine: rows on no list go to the FEL or to REL with a fresh serial, and new rows are made for both.
-use Rattle.machine.specs.All.{ℕ, ◌+◌, ◌%◌, min, Bool, cond, List, ltb}
+use Rattle.std.specs.Prelude.{◌+◌, ◌%◌}
+use Rattle.machine.specs.All.{ℕ, min, Bool, cond, List, ltb}
 use Rattle.layout.specs.All.{most32, most64}
 use Rattle.rows_laws.specs.All.{serial_field, rel, free, row_count, write, set_time, put, first, take_first, schedule, newborn_at, copy_at}
 use Rattle.state.specs.{declared.scalars.Scalars.Scalars, All.put_serial, All.put_made, All.Rows}

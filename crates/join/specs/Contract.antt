@@ -1,5 +1,6 @@
 -- What a call of the join promises, for all bytes and lengths.
-use Rattle.machine.specs.All.{ℕ, List, ◌++◌, ◌≡◌, length, drop}
+use Rattle.std.specs.Prelude.{◌++◌, ◌≡◌}
+use Rattle.machine.specs.All.{ℕ, List, length, drop}
 use Rattle.join.specs.{declared.Joined.Joined, declared.Joined.TheVariants.Bytes, declared.Joined.TheVariants.Refused}
 use Rattle.join_laws.specs.Joining.{Joining, joined, refused}
 

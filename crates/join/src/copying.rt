@@ -1,5 +1,6 @@
 // Bytes as they are.
-ghost use Rattle.machine.specs.All.{◌≡◌, ◌+◌, ◌≤◌, ◌++◌, leb, length, take, drop, sets};
+ghost use Rattle.std.specs.Prelude.{◌≡◌, ◌+◌, ◌≤◌, ◌++◌};
+ghost use Rattle.machine.specs.All.{leb, length, take, drop, sets};
 
 // Writes the first `count` bytes of `from` at a position.
 pub fn copy(from: &[u8], count: usize, out: &mut [u8], at: usize)

@@ -1,11 +1,15 @@
 // Two plants as one model, over bytes (document 02, item 13). specs/Contract has what `join` promises for all bytes and lengths.
+
+#![tactic(auto)]
+
 mod copying;
 mod moving;
 mod nested;
 mod rows;
 mod whole;
 
-ghost use Rattle.machine.specs.All.{◌≤◌, ◌≡◌, length};
+ghost use Rattle.std.specs.Prelude.{◌≤◌, ◌≡◌};
+ghost use Rattle.machine.specs.All.{length};
 ghost use Rattle.join_laws.specs.Joining.{join as joining};
 ghost use Rattle.join.specs.Contract.{Contract};
 ghost use Rattle.join_laws.specs.Whole.{Fits, kept_room, at_front_lem, joined_bytes_lem, joined_tables, Ready};

@@ -1,5 +1,5 @@
 // One number of a part, written as the joined model numbers it.
-ghost use Rattle.machine.specs.All.{◌≡◌, ◌-◌};
+ghost use Rattle.std.specs.Prelude.{◌≡◌, ◌-◌};
 ghost use Rattle.codec.specs.Writing.{written, put};
 ghost use Rattle.join_laws.specs.Rows.{moved_by};
 

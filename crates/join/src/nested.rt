@@ -1,5 +1,6 @@
 // Values of a part, from the tables, written as the joined model numbers them: brackets open inside brackets.
-ghost use Rattle.machine.specs.All.{◌≡◌, ◌+◌, ◌≤◌, ◌<◌, length, max_values};
+ghost use Rattle.std.specs.Prelude.{◌≡◌, ◌+◌, ◌≤◌, ◌<◌};
+ghost use Rattle.machine.specs.All.{length, max_values};
 ghost use Rattle.layout.specs.All.{tables_size};
 ghost use Rattle.codec.specs.Writing.{written};
 ghost use Rattle.join_laws.specs.Rows.{opened as openedTerms, signs_in, sign_at, item_at, items_from, value_row_lem, value_rows, Wrote, puts};

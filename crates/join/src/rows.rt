@@ -1,5 +1,6 @@
 // Blocks and values of a part, from the tables, written as the joined model numbers them.
-ghost use Rattle.machine.specs.All.{◌≡◌, ◌+◌, ◌*◌, ◌≤◌, ◌<◌, max_blocks};
+ghost use Rattle.std.specs.Prelude.{◌≡◌, ◌+◌, ◌*◌, ◌≤◌, ◌<◌};
+ghost use Rattle.machine.specs.All.{max_blocks};
 ghost use Rattle.layout.specs.All.{tables_size};
 ghost use Rattle.codec.specs.Writing.{written};
 ghost use Rattle.join_laws.specs.Rows.{shape_of, role_of, operand_at, operands_from, block_row, block_rows, puts};

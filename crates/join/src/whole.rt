@@ -1,5 +1,6 @@
 // The joined model, part by part, from two headers and their tables.
-ghost use Rattle.machine.specs.All.{◌≡◌, ◌+◌, ◌≤◌, max_counter};
+ghost use Rattle.std.specs.Prelude.{◌≡◌, ◌+◌, ◌≤◌};
+ghost use Rattle.machine.specs.All.{max_counter};
 ghost use Rattle.layout.specs.All.{tables_size};
 ghost use Rattle.codec.specs.Writing.{written, put};
 ghost use Rattle.join_laws.specs.Rows.{puts};

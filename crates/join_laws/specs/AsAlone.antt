@@ -1,7 +1,8 @@
 -- Document 02, item 13, over bytes: "If neither model uses the clock term, under edition 2 both or neither have an ENTER or LEAVE of more than 1 unit,
 -- and the joined run and each run alone end dry, then the records of either part, with blocks numbered as before and transactions by rank within
 -- the part, are those of that part alone." Proved in ../proofs/AsAlone.antt.
-use Rattle.machine.specs.All.{ℕ, ◌≡◌, false, List, in_force, BlockModel, Record, accept, validate}
+use Rattle.std.specs.Prelude.{◌≡◌}
+use Rattle.machine.specs.All.{ℕ, false, List, in_force, BlockModel, Record, accept, validate}
 use Rattle.joined.specs.Parts.{uses_clock, SameUnits, Dry, Apart}
 use Rattle.join_laws.specs.Joining.{joined, join}
 

@@ -1,6 +1,7 @@
 -- Document 02, item 13, over bytes: "Answers: each model's, then its tape's own numbers, first pair first; then 61 editions differ or a joined
 -- count or the counter passes its limit; then 62 the output needs more bytes than were lent."
-use Rattle.machine.specs.All.{ℕ, ◌≡◌, cond, ◌&&◌, List, ◌++◌, leb, length, in_force, BlockModel, beginning, model_of_lem, Validation, accept, reject, with_model, validate}
+use Rattle.std.specs.Prelude.{◌≡◌, ◌&&◌, ◌++◌}
+use Rattle.machine.specs.All.{ℕ, cond, List, leb, length, in_force, BlockModel, beginning, model_of_lem, Validation, accept, reject, with_model, validate}
 use Rattle.joined.specs.Join.{join_models, join_tapes, joinable}
 use Rattle.join_laws.specs.Written.{model_bytes}
 

@@ -1,5 +1,6 @@
 -- The join as the code does it: the numbers of blocks and values in the tables, moved on by what they name, and written one after the other.
-use Rattle.machine.specs.All.{ℕ, zero, suc, ◌+◌, ◌*◌, ◌-◌, ◌/◌, ◌%◌, ◌≡◌, cond, List, [], ◌∷◌, ◌++◌, ltb, leb, eqb, length, get_or}
+use Rattle.std.specs.Prelude.{◌+◌, ◌*◌, ◌-◌, ◌/◌, ◌%◌, ◌≡◌, ◌∷◌, ◌++◌}
+use Rattle.machine.specs.All.{ℕ, zero, suc, cond, List, [], ltb, leb, eqb, length, get_or}
 use Rattle.layout.specs.Layout as Layout
 use Rattle.codec.specs.Writing.{Written, put}
 use Rattle.join_laws.specs.declared.shift.Shift.{Shift}

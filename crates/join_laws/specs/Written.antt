@@ -1,6 +1,7 @@
 -- A model as document 01 stores it: Bytes, "Model: edition (1); facilities 0..32; .." and Blocks, "Kind and operands as stored".
 -- The bytes of a joined model are read as that model again (../proofs/Accepted.antt).
-use Rattle.machine.specs.All.{ℕ, zero, suc, ◌-◌, cond, List, [], ◌∷◌, ◌++◌, map, leb, length, flat, number_bytes, Term, constant, minus_constant, parameter, clock_term, entries_of, content_of, units_in_use, units_free, facility_in_use, value, comparison, bracket, Sum, nothing, plus, minus, Condition, always, when_true, Code, code_index, Share, facility, storage, Change, up, down, Block, generate, advance, terminate, takes, frees, wait_server, wait_terms, moves, assign, priority, split, counts, assemble, preempt, give_back, BlockModel}
+use Rattle.std.specs.Prelude.{◌-◌, ◌∷◌, ◌++◌}
+use Rattle.machine.specs.All.{ℕ, zero, suc, cond, List, [], map, leb, length, flat, number_bytes, Term, constant, minus_constant, parameter, clock_term, entries_of, content_of, units_in_use, units_free, facility_in_use, value, comparison, bracket, Sum, nothing, plus, minus, Condition, always, when_true, Code, code_index, Share, facility, storage, Change, up, down, Block, generate, advance, terminate, takes, frees, wait_server, wait_terms, moves, assign, priority, split, counts, assemble, preempt, give_back, BlockModel}
 use Rattle.layout.specs.All.{relation_number, terms}
 
 module _ (facilities : ℕ) where

@@ -1,6 +1,7 @@
 -- Document 02, item 13: "Join two accepted models of one edition: the second's servers, queues, values, lists and blocks are numbered on after
 -- the first's, counters are added, tapes are laid end to end."
-use Rattle.machine.specs.All.{ℕ, ◌+◌, Bool, cond, ◌&&◌, List, ◌++◌, map, leb, eqb, length, Term, constant, minus_constant, parameter, clock_term, entries_of, content_of, units_in_use, units_free, facility_in_use, value, comparison, bracket, Sum, nothing, plus, minus, Condition, always, when_true, Share, facility, storage, Block, generate, advance, terminate, takes, frees, wait_server, wait_terms, moves, assign, priority, split, counts, assemble, preempt, give_back, BlockModel}
+use Rattle.std.specs.Prelude.{◌+◌, ◌&&◌, ◌++◌}
+use Rattle.machine.specs.All.{ℕ, Bool, cond, List, map, leb, eqb, length, Term, constant, minus_constant, parameter, clock_term, entries_of, content_of, units_in_use, units_free, facility_in_use, value, comparison, bracket, Sum, nothing, plus, minus, Condition, always, when_true, Share, facility, storage, Block, generate, advance, terminate, takes, frees, wait_server, wait_terms, moves, assign, priority, split, counts, assemble, preempt, give_back, BlockModel}
 use Rattle.machine.specs.Limits as Limits
 
 -- ---- "numbered on"

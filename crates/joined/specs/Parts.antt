@@ -1,7 +1,8 @@
 -- Document 02, item 13: "If neither model uses the clock term, under edition 2 both or neither have an ENTER or LEAVE of more than 1 unit, and the
 -- joined run and each run alone end dry, then the records of either part, with blocks numbered as before and transactions by rank within the
 -- part, are those of that part alone." Proved in ../proofs/Parts.antt.
-use Rattle.machine.specs.All.{ℕ, ◌+◌, ◌-◌, ◌≡◌, Bool, true, false, ◌&&◌, ◌||◌, List, map, leb, ltb, eqb, length, those, any_of, bit, up_to, Rules, Term, constant, minus_constant, parameter, clock_term, entries_of, content_of, units_in_use, units_free, facility_in_use, value, comparison, bracket, Sum, nothing, plus, minus, facts, above_one, BlockModel, Record, run, accept, validate, records_of}
+use Rattle.std.specs.Prelude.{◌+◌, ◌-◌, ◌≡◌, ◌&&◌, ◌||◌}
+use Rattle.machine.specs.All.{ℕ, Bool, true, false, List, map, leb, ltb, eqb, length, those, any_of, bit, up_to, Rules, Term, constant, minus_constant, parameter, clock_term, entries_of, content_of, units_in_use, units_free, facility_in_use, value, comparison, bracket, Sum, nothing, plus, minus, facts, above_one, BlockModel, Record, run, accept, validate, records_of}
 use Rattle.joined.specs.Join.{Part, first, second, join_models, join_tapes, joinable}
 
 -- ---- "uses the clock term"

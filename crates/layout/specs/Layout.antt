@@ -1,6 +1,7 @@
 -- Where things stand in the two arrays of a run, by index. `tables`, filled once by decoding: the program, the values, the
 -- capacities and the edition. `tally`, the 64-bit numbers that change: entries, units, contents, sums, and where each sample list goes on.
-use Rattle.machine.specs.All.{ℕ, ◌≤◌, List, length}
+use Rattle.std.specs.Prelude.{◌≤◌}
+use Rattle.machine.specs.All.{ℕ, List, length}
 
 -- ---- sizes
 

@@ -1,6 +1,7 @@
 -- The numbers that stand for a term, a sum or a block in the tables. Whatever is used as an index (a parameter, a block whose
 -- entries are asked for, a queue, a server, a value, a list) is stored from 0; targets are block numbers, from 1.
-use Rattle.machine.specs.All.{ℕ, zero, suc, ◌-◌, List, [], ◌∷◌, ◌++◌, Relation, equal, unequal, less, at_most, greater, at_least, Term, constant, minus_constant, parameter, clock_term, entries_of, content_of, units_in_use, units_free, facility_in_use, value, comparison, bracket, Condition, always, when_true, Sum, nothing, plus, minus, Code, code_index, Share, facility, storage, Change, up, down, Block, generate, advance, terminate, takes, frees, wait_server, wait_terms, moves, assign, priority, split, counts, assemble, preempt, give_back}
+use Rattle.std.specs.Prelude.{◌-◌, ◌∷◌, ◌++◌}
+use Rattle.machine.specs.All.{ℕ, zero, suc, List, [], Relation, equal, unequal, less, at_most, greater, at_least, Term, constant, minus_constant, parameter, clock_term, entries_of, content_of, units_in_use, units_free, facility_in_use, value, comparison, bracket, Condition, always, when_true, Sum, nothing, plus, minus, Code, code_index, Share, facility, storage, Change, up, down, Block, generate, advance, terminate, takes, frees, wait_server, wait_terms, moves, assign, priority, split, counts, assemble, preempt, give_back}
 
 unfoldable pub relation_number : Relation → ℕ
 relation_number equal = 1

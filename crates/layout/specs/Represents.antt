@@ -1,6 +1,6 @@
 -- When header, tables and list cells stand for a model and a tape of the machine.
-use Rattle.machine.specs.All.{ℕ, suc, ◌+◌, ◌*◌, ◌<◌, ◌≡◌, Bool, true, false, ◌&&◌, List, [], ◌++◌, leb, T, length, get_or, take, drop, replicate, in_force, max_constant, max_lists, Cursor, parsed, times, field_up_to, View, evaluate, Term, constant, minus_constant, parameter, clock_term, entries_of, content_of, units_in_use, units_free, facility_in_use, value, comparison, bracket, Sum, nothing, plus, minus, Block, terminate, facts, BlockModel, all_of, Thing, the_clock, entry, Watches, Spares}
-use Rattle.std.specs.Prelude.{ℤ}
+use Rattle.machine.specs.All.{ℕ, suc, Bool, true, false, List, [], leb, T, length, get_or, take, drop, replicate, in_force, max_constant, max_lists, Cursor, parsed, times, field_up_to, View, evaluate, Term, constant, minus_constant, parameter, clock_term, entries_of, content_of, units_in_use, units_free, facility_in_use, value, comparison, bracket, Sum, nothing, plus, minus, Block, terminate, facts, BlockModel, all_of, Thing, the_clock, entry, Watches, Spares}
+use Rattle.std.specs.Prelude.{ℤ, ◌+◌, ◌*◌, ◌<◌, ◌≡◌, ◌&&◌, ◌++◌}
 use Rattle.constants.specs.declared.model.Model.{Model}
 use Rattle.layout.specs.Layout as Layout
 use Rattle.layout.specs.Numbers.{sum_numbers, block_numbers}

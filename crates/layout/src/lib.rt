@@ -3,7 +3,8 @@
 
 #![tactic(auto)]
 
-ghost use Rattle.machine.specs.All.{◌≡◌, get_or, set};
+ghost use Rattle.std.specs.Prelude.{◌≡◌};
+ghost use Rattle.machine.specs.All.{get_or, set};
 
 use constants::Model;
 

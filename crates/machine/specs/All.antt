@@ -1,7 +1,8 @@
 -- The names of these definitions that other crates use, passed on so that a file there has one line for them.
-pub use Rattle.machine.specs.Basics.{ℕ, zero, suc, ◌-◌, ◌≡◌, refl, subst, List, ◌∷◌, length, ne_eqb, rules, cond, eqb, get_or, ◌+◌, ◌≤◌, ◌<◌, sym, ◌∙◌, Bool, false, [], none, arith, lt-ltb, le-ltb, cases, ap, ◌≢◌, Option, eqb-true, eqb-false, eq-eqb, some, drop, ◌*◌, max, map, mul-le-mul, ltb-true, ltb-false, ltb, length-map, length-set, get_or-eq_default, get_or-set_same, get_or-set_other, min, set, clash, add-sub_cancel_left, drop_of_length-le, length-drop, drop-cons, le-leb, lt-leb, true, ◌&&◌, ◌++◌, leb, take-append-drop, drop-append_seam, drop-drop, length-take-le, leb-true, ◌/◌, ◌%◌, ◌^◌, pow-suc, pow-le-pow_right, one-le-pow, lt_of_lt_of_le, append_assoc, lit<, take, length-append, get_or-drop, ap₂, lit≤, mul_assoc, mul_comm, mul-le-mul_right, le-mul_of_pos_right, le_trans, one-mul, add-zero, sets, set_comm, length-sets, leb-false, add-one, zero-add, sets-eq, take-append_seam, zero-le, append-nil, subst₂, drop-length, reverse, length-reverse, length-replicate, leb-zero, T, replicate, get_or-replicate, length-take, get_or-append, ext_get_or, get_or-take, get_or-append-add, not-true, not-false, true≢false, not, ◌||◌, take_at, leb→le, ltb→lt, take-suc, take-length, get_or_at, map-append, add_assoc, drop-append-le, drop-append-add, get_or-map, map-map, suc-add, fun_ext, ◌⊎◌, inl, inr, reverse_aux, reverse-cons, set_out, false≢true, mod-lt, mod-eq_of_lt, div-add-mod', suc-mul, set-get_or, T_not, eqb→eq, map-set_same, le_antisymm, mul-le-mul_left, decided, add-suc, reverse-append, drop-set-lt, set-set, pos_of_ne-zero, get_or-append_seam, mul-add, add-mul, div-le_of_le-mul, add_comm, mul-add-mod_self_left, add-mul-mod_self_right, add-mul-div_right, take-add, drop_at, take_all}
+pub use Rattle.std.specs.Prelude.{◌-◌, ◌≡◌, ◌∷◌, ◌+◌, ◌≤◌, ◌<◌, ◌≢◌, ◌*◌, ◌&&◌, ◌++◌, ◌/◌, ◌%◌, ◌^◌, ◌||◌, ◌⊎◌}
+pub use Rattle.machine.specs.Basics.{ℕ, zero, suc, refl, subst, List, length, ne_eqb, rules, cond, eqb, get_or, sym, ◌∙◌, Bool, false, [], none, arith, lt-ltb, le-ltb, cases, ap, Option, eqb-true, eqb-false, eq-eqb, some, drop, max, map, mul-le-mul, ltb-true, ltb-false, ltb, length-map, length-set, get_or-eq_default, get_or-set_same, get_or-set_other, min, set, clash, add-sub_cancel_left, drop_of_length-le, length-drop, drop-cons, le-leb, lt-leb, true, leb, take-append-drop, drop-append_seam, drop-drop, length-take-le, leb-true, pow-suc, pow-le-pow_right, one-le-pow, lt_of_lt_of_le, append_assoc, lit<, take, length-append, get_or-drop, ap₂, lit≤, mul_assoc, mul_comm, mul-le-mul_right, le-mul_of_pos_right, le_trans, one-mul, add-zero, sets, set_comm, length-sets, leb-false, add-one, zero-add, sets-eq, take-append_seam, zero-le, append-nil, subst₂, drop-length, reverse, length-reverse, length-replicate, leb-zero, T, replicate, get_or-replicate, length-take, get_or-append, ext_get_or, get_or-take, get_or-append-add, not-true, not-false, true≢false, not, take_at, leb→le, ltb→lt, take-suc, take-length, get_or_at, map-append, add_assoc, drop-append-le, drop-append-add, get_or-map, map-map, suc-add, fun_ext, inl, inr, reverse_aux, reverse-cons, set_out, false≢true, mod-lt, mod-eq_of_lt, div-add-mod', suc-mul, set-get_or, T_not, eqb→eq, map-set_same, le_antisymm, mul-le-mul_left, decided, add-suc, reverse-append, drop-set-lt, set-set, pos_of_ne-zero, get_or-append_seam, mul-add, add-mul, div-le_of_le-mul, add_comm, mul-add-mod_self_left, add-mul-mod_self_right, add-mul-div_right, take-add, drop_at, take_all}
 unfoldable pub use Rattle.machine.specs.Basics.{ℕ_discrete}
-pub use Rattle.machine.specs.Basics.{ℕ, zero, suc, ◌-◌, ◌≡◌, refl, subst, List, ◌∷◌, length, ne_eqb, rules, cond, eqb, get_or, ◌+◌, ◌≤◌, ◌<◌, sym, ◌∙◌, Bool, false, [], none, arith, lt-ltb, le-ltb, cases, ap, ◌≢◌, Option, eqb-true, eqb-false, eq-eqb, some, drop, ◌*◌, max, map, mul-le-mul, ltb-true, ltb-false, ltb, length-map, length-set, get_or-eq_default, get_or-set_same, get_or-set_other, min, set, clash, add-sub_cancel_left, drop_of_length-le, length-drop, drop-cons, le-leb, lt-leb, true, ◌&&◌, ◌++◌, leb, take-append-drop, drop-append_seam, drop-drop, length-take-le, leb-true, ◌/◌, ◌%◌, ◌^◌, pow-suc, pow-le-pow_right, one-le-pow, lt_of_lt_of_le, append_assoc, lit<, take, length-append, get_or-drop, ap₂, lit≤, mul_assoc, mul_comm, mul-le-mul_right, le-mul_of_pos_right, le_trans, one-mul, add-zero, sets, set_comm, length-sets, leb-false, add-one, zero-add, sets-eq, take-append_seam, zero-le, append-nil, subst₂, drop-length, reverse, length-reverse, length-replicate, leb-zero, T, replicate, get_or-replicate, length-take, get_or-append, ext_get_or, get_or-take, get_or-append-add, not-true, not-false, true≢false, not, ◌||◌, take_at, leb→le, ltb→lt, take-suc, take-length, get_or_at, map-append, add_assoc, drop-append-le, drop-append-add, get_or-map, map-map, suc-add, fun_ext, ◌⊎◌, inl, inr, reverse_aux, reverse-cons, set_out, false≢true, mod-lt, mod-eq_of_lt, div-add-mod', suc-mul, set-get_or, T_not, eqb→eq, map-set_same, le_antisymm, mul-le-mul_left, decided, add-suc, reverse-append, drop-set-lt, set-set, pos_of_ne-zero, get_or-append_seam, mul-add, add-mul, div-le_of_le-mul, add_comm, mul-add-mod_self_left, add-mul-mod_self_right, add-mul-div_right, take-add, drop_at, take_all}
+pub use Rattle.machine.specs.Basics.{ℕ, zero, suc, refl, subst, List, length, ne_eqb, rules, cond, eqb, get_or, sym, ◌∙◌, Bool, false, [], none, arith, lt-ltb, le-ltb, cases, ap, Option, eqb-true, eqb-false, eq-eqb, some, drop, max, map, mul-le-mul, ltb-true, ltb-false, ltb, length-map, length-set, get_or-eq_default, get_or-set_same, get_or-set_other, min, set, clash, add-sub_cancel_left, drop_of_length-le, length-drop, drop-cons, le-leb, lt-leb, true, leb, take-append-drop, drop-append_seam, drop-drop, length-take-le, leb-true, pow-suc, pow-le-pow_right, one-le-pow, lt_of_lt_of_le, append_assoc, lit<, take, length-append, get_or-drop, ap₂, lit≤, mul_assoc, mul_comm, mul-le-mul_right, le-mul_of_pos_right, le_trans, one-mul, add-zero, sets, set_comm, length-sets, leb-false, add-one, zero-add, sets-eq, take-append_seam, zero-le, append-nil, subst₂, drop-length, reverse, length-reverse, length-replicate, leb-zero, T, replicate, get_or-replicate, length-take, get_or-append, ext_get_or, get_or-take, get_or-append-add, not-true, not-false, true≢false, not, take_at, leb→le, ltb→lt, take-suc, take-length, get_or_at, map-append, add_assoc, drop-append-le, drop-append-add, get_or-map, map-map, suc-add, fun_ext, inl, inr, reverse_aux, reverse-cons, set_out, false≢true, mod-lt, mod-eq_of_lt, div-add-mod', suc-mul, set-get_or, T_not, eqb→eq, map-set_same, le_antisymm, mul-le-mul_left, decided, add-suc, reverse-append, drop-set-lt, set-set, pos_of_ne-zero, get_or-append_seam, mul-add, add-mul, div-le_of_le-mul, add_comm, mul-add-mod_self_left, add-mul-mod_self_right, add-mul-div_right, take-add, drop_at, take_all}
 unfoldable pub use Rattle.machine.specs.Basics.{ℕ_discrete}
 pub use Rattle.machine.specs.Limits.{max_clock, max_turns, max_number_bytes, five_groups, max_report_number_bytes, max_report_number, max_transaction, max_blocks, max_serial, max_time, max_samples, record_room, work_numbers, report_room, max_queues, max_brackets, max_constant, max_facilities, max_storages, max_living, max_back, max_lists, max_capacity, max_priority, max_split, max_assemble, max_counter, parameter_count, max_value_numbers, max_values, max_terminate, max_terms, max_mentions, max_number}
 pub use Rattle.machine.specs.Rules.{in_force, Rules, document01, item6, item11, document02, item1}

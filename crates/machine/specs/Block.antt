@@ -1,6 +1,7 @@
 -- Blocks, "Kind and operands as stored", and the model that holds them. Server operands are server numbers: a facility's own
 -- number, and for a storage its number after all facilities (Term.antt, `Server`).
-use Rattle.machine.specs.Basics.{ℕ, suc, ◌+◌, ◌*◌, ◌-◌, Bool, true, false, not, List, [], ◌∷◌, some, ltb, leb, eqb}
+use Rattle.std.specs.Prelude.{◌+◌, ◌*◌, ◌-◌, ◌∷◌}
+use Rattle.machine.specs.Basics.{ℕ, suc, Bool, true, false, not, List, [], some, ltb, leb, eqb}
 use Rattle.machine.specs.{Lists.nth, Lists.bit, Lists.up_to, Limits.max_back, Rules.Rules}
 use Rattle.machine.specs.Term.{Server, Term, Relation, Condition, always, when_true, Sum}
 use Rattle.machine.specs.Facts.{Facts, no_facts, set_generates, set_rank, set_uses, set_terminates, set_copies, set_gathers, set_server, set_units, set_queue, set_releases, set_preempts, set_target, set_leaves, set_wel, set_back, set_waits_while, set_terms}

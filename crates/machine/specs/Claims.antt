@@ -1,5 +1,6 @@
 -- "What demand 3 speaks of", word by word, as one claim about the states of a whole run. Proved in ../proofs/Demand3.antt.
-use Rattle.machine.specs.Basics.{ℕ, suc, ◌+◌, ◌*◌, ◌-◌, ◌%◌, ◌≤◌, ◌<◌, ◌≡◌, Bool, true, false, cond, not, ◌&&◌, ◌||◌, List, [], ◌∷◌, ◌++◌, map, reverse, Option, none, some, ltb, leb, eqb, T, length, get_or, drop}
+use Rattle.std.specs.Prelude.{◌+◌, ◌*◌, ◌-◌, ◌%◌, ◌≤◌, ◌<◌, ◌≡◌, ◌&&◌, ◌||◌, ◌∷◌, ◌++◌}
+use Rattle.machine.specs.Basics.{ℕ, suc, Bool, true, false, cond, not, List, [], map, reverse, Option, none, some, ltb, leb, eqb, T, length, get_or, drop}
 use Rattle.machine.specs.{Limits.max_turns, Transaction.Transaction, Transaction.Interrupted, Term.Server, Term.server_at, Facts.Facts, Facts.is_generate, State.State, State.Logged, Execute.fits, Turn.waits_on, Trace.Record, Trace.in_ranges, Run.run, Run.states, Report.places, Report.moving_one, Report.report_numbers, Outcome.Outcome}
 use Rattle.machine.specs.Lists.{those, any_of, flat, nth}
 use Rattle.machine.specs.Block.{Code, U, NU, E, NE, F, NF, status, Block, facts, BlockModel, block_at, back_at}

@@ -1,5 +1,6 @@
 -- Questions 3 to 10, number by number, and the model and tape that are read on the way.
-use Rattle.machine.specs.Basics.{ℕ, zero, suc, ◌+◌, cond, List, [], ◌∷◌, ltb, leb, eqb, length}
+use Rattle.std.specs.Prelude.{◌+◌, ◌∷◌}
+use Rattle.machine.specs.Basics.{ℕ, zero, suc, cond, List, [], ltb, leb, eqb, length}
 use Rattle.machine.specs.Limits as Limits
 use Rattle.machine.specs.{Rules.Rules, Lists.nth}
 use Rattle.machine.specs.Parser.{Parser, parsed, refused, ◌>>=◌, ◌>>◌, give, refuse, ask, times, field, field_up_to}

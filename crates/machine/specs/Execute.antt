@@ -1,5 +1,6 @@
 -- Blocks: the questions inside a turn, and what each kind does once they are answered.
-use Rattle.machine.specs.Basics.{ℕ, suc, ◌+◌, ◌-◌, Bool, true, false, cond, not, ◌&&◌, ◌||◌, List, [], ◌∷◌, ltb, leb, eqb}
+use Rattle.std.specs.Prelude.{◌+◌, ◌-◌, ◌&&◌, ◌||◌, ◌∷◌}
+use Rattle.machine.specs.Basics.{ℕ, suc, Bool, true, false, cond, not, List, [], ltb, leb, eqb}
 use Rattle.machine.specs.{Limits.max_living, State.State}
 use Rattle.machine.specs.Transaction.{Transaction, Event, Gatherer, Interrupted}
 use Rattle.machine.specs.Lists.{set_nth, bit, up_to, any_of}

@@ -1,5 +1,6 @@
 -- Lists: how transactions get a serial, come onto a list and leave it, and what a record notes.
-use Rattle.machine.specs.Basics.{ℕ, zero, suc, ◌+◌, ◌-◌, Bool, true, false, cond, not, ◌&&◌, List, [], ◌∷◌, reverse, some, ltb, leb, eqb, length, get_or, set, take, drop}
+use Rattle.std.specs.Prelude.{◌+◌, ◌-◌, ◌&&◌, ◌∷◌}
+use Rattle.machine.specs.Basics.{ℕ, zero, suc, Bool, true, false, cond, not, List, [], reverse, some, ltb, leb, eqb, length, get_or, set, take, drop}
 use Rattle.machine.specs.Transaction.{Transaction, Event, Gatherer, Interrupted, precedes, earlier, newborn}
 use Rattle.machine.specs.Lists.{insert, those, others, replace_first, nth, set_nth}
 use Rattle.machine.specs.{Term.Server, Term.server_at, Term.queue_at, Block.Code, Block.wel_index, Trace.Record, Trace.record_bytes, State.State}

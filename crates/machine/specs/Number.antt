@@ -1,6 +1,7 @@
 -- Bytes, "A number is groups of seven bits, highest first, top bit set on all bytes but the last, shortest form, at most
 -- 5 bytes and 4,294,967,295 (report: 9 bytes)."
-use Rattle.machine.specs.Basics.{ℕ, zero, suc, ◌+◌, ◌*◌, ◌-◌, ◌/◌, ◌%◌, Bool, false, cond, List, [], ◌∷◌, ◌++◌, Option, none, some, ltb, leb, eqb}
+use Rattle.std.specs.Prelude.{◌+◌, ◌*◌, ◌-◌, ◌/◌, ◌%◌, ◌∷◌, ◌++◌}
+use Rattle.machine.specs.Basics.{ℕ, zero, suc, Bool, false, cond, List, [], Option, none, some, ltb, leb, eqb}
 
 -- ---- Written
 

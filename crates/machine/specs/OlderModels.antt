@@ -1,6 +1,7 @@
 -- Document 02, items 7, 8 and 11, add kinds of blocks and item 12 an edition: every run of a model that is accepted without them stays as it was.
 -- Proved in ../proofs/later/OlderModels.antt, for any setting of the other rules.
-use Rattle.machine.specs.Basics.{ℕ, ◌≤◌, ◌≡◌, List}
+use Rattle.std.specs.Prelude.{◌≤◌, ◌≡◌}
+use Rattle.machine.specs.Basics.{ℕ, List}
 use Rattle.machine.specs.{Rules.Rules, Outcome.outcome}
 
 -- the rules with so many kinds and editions

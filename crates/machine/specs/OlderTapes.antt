@@ -1,9 +1,9 @@
 -- Document 02, item 1: "Runs of older tapes that did not end 22 keep their bytes." Proved in ../proofs/later/OlderTapes.antt, for any two
 -- rules of which the one allows no less, and so from document 01 to document 02; the clock term in ../proofs/runs/ClockTerm.antt.
-use Rattle.machine.specs.Basics.{ℕ, ◌≤◌, ◌≡◌, List}
+use Rattle.machine.specs.Basics.{ℕ, List}
 use Rattle.machine.specs.{Rules.Rules, Term.clock_term, Term.term, Block.BlockModel, State.State, Turn.taking, Run.states, Validate.accept, Validate.validate, Outcome.Outcome, Outcome.outcome, Claims.Each}
 use Rattle.machine.specs.Trace.{Record, taken, no_more, read_record}
-use Rattle.std.specs.Prelude.{ℤ, pos}
+use Rattle.std.specs.Prelude.{ℤ, pos, ◌≤◌, ◌≡◌}
 
 -- clock limit, time limit, largest number and numbers of kinds and editions are no lower
 pub record Wider (old new : Rules) : Type 0 where

@@ -1,6 +1,7 @@
 -- Document 02, item 6: "A model whose transactions release only their own facilities, and hold none when ending, gives the trace it
 -- gave." Proved in ../proofs/later/OnlyHolder.antt, for any setting of the other rules.
-use Rattle.machine.specs.Basics.{ℕ, ◌≡◌, Bool, true, false, not, ◌&&◌, ◌||◌, List, [], ◌∷◌, eqb, T}
+use Rattle.std.specs.Prelude.{◌≡◌, ◌&&◌, ◌||◌, ◌∷◌}
+use Rattle.machine.specs.Basics.{ℕ, Bool, true, false, not, List, [], eqb, T}
 use Rattle.machine.specs.{Rules.Rules, Lists.bit, Lists.up_to, Block.BlockModel, State.Logged, Run.run, Outcome.outcome, Claims.facts_at, Claims.terminates, Claims.holder_by}
 use Rattle.machine.specs.Validate.{Validation, accept, reject, validate}
 

@@ -1,6 +1,7 @@
 -- Reading number by number: "whole, shortest, in size?", then "within its field's range?", each asked before the next
 -- number is read. The byte list is fixed and a cursor is passed along, so the order of refusals is the order of the text.
-use Rattle.machine.specs.Basics.{ℕ, zero, suc, ◌+◌, Bool, true, false, cond, ◌&&◌, List, [], ◌∷◌, Option, none, some, leb, drop}
+use Rattle.std.specs.Prelude.{◌+◌, ◌&&◌, ◌∷◌}
+use Rattle.machine.specs.Basics.{ℕ, zero, suc, Bool, true, false, cond, List, [], Option, none, some, leb, drop}
 use Rattle.machine.specs.Limits as Limits
 use Rattle.machine.specs.Number.{Number, read_number}
 

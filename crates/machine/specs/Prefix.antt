@@ -1,6 +1,7 @@
 -- Of two runs of one model and tape, whatever their budgets and rooms for the trace, one is the beginning of the other. So a trace that
 -- was cut by its budget or its buffer begins every longer one. Proved in ../proofs/runs/Prefix.antt.
-use Rattle.machine.specs.Basics.{ℕ, ◌≤◌, ◌≡◌, List, ◌++◌, length, drop}
+use Rattle.std.specs.Prelude.{◌≤◌, ◌≡◌, ◌++◌}
+use Rattle.machine.specs.Basics.{ℕ, List, length, drop}
 use Rattle.machine.specs.{Trace.Record, Block.BlockModel, Setters.set_end, Run.run, Run.states, Outcome.records_of, Claims.Each}
 
 -- some records, and others behind them

@@ -1,6 +1,7 @@
 -- Bytes, "Report: clock, made, ended; per facility and storage: ..; per queue: ..; the living count and, per living one,
 -- number and place". Document 02, item 2: "List the living by rising transaction number."
-use Rattle.machine.specs.Basics.{ℕ, suc, Bool, ◌&&◌, List, [], ◌∷◌, ◌++◌, map, Option, none, some, ltb, eqb, length}
+use Rattle.std.specs.Prelude.{◌&&◌, ◌∷◌, ◌++◌}
+use Rattle.machine.specs.Basics.{ℕ, suc, Bool, List, [], map, Option, none, some, ltb, eqb, length}
 use Rattle.machine.specs.{Transaction.Transaction, Lists.insert, Lists.those, Lists.flat, Term.Server, Term.Queue, Facts.Facts, Block.facts, Block.BlockModel, Block.block_at, Number.number_bytes, State.State, State.Logged}
 
 -- how many records of an outcome stand at blocks that pass a test

@@ -1,5 +1,6 @@
 -- A turn: the ends before a turn, the start, and the run, "Each turn gets what the turn before it left".
-use Rattle.machine.specs.Basics.{ℕ, zero, suc, ◌+◌, ◌*◌, Bool, true, false, cond, not, ◌&&◌, ◌||◌, List, [], ◌∷◌, map, ◌++◌, Option, none, some, ltb, leb, eqb, length, replicate}
+use Rattle.std.specs.Prelude.{◌+◌, ◌*◌, ◌&&◌, ◌||◌, ◌∷◌, ◌++◌}
+use Rattle.machine.specs.Basics.{ℕ, zero, suc, Bool, true, false, cond, not, List, [], map, Option, none, some, ltb, leb, eqb, length, replicate}
 use Rattle.machine.specs.{Limits.max_serial, Limits.max_turns, Limits.record_room, Term.idle_server, Term.empty_queue, Facts.Facts, Facts.is_generate, Block.Block, Block.facts, Block.BlockModel, State.State, Setters.set_end, Moves.times_left, Moves.arrival, Turn.turn}
 
 -- ---- "Before each turn, in this order: .." end 1 (dry), end 26, end 3, end 4

@@ -1,6 +1,6 @@
 -- Blocks, "Terms are a tag and a number: .." and "A value is a sum: ..", with their evaluation.
-use Rattle.machine.specs.Basics.{ℕ, ◌-◌, ◌%◌, Bool, true, false, cond, not, List, [], ◌∷◌, ◌++◌, ltb, eqb}
-use Rattle.std.specs.Prelude.{ℤ, pos, negsuc, neg_ℤ, ◌+ℤ◌, ◌-ℤ◌}
+use Rattle.machine.specs.Basics.{ℕ, Bool, true, false, cond, not, List, [], ltb, eqb}
+use Rattle.std.specs.Prelude.{ℤ, pos, negsuc, neg_ℤ, ◌+ℤ◌, ◌-ℤ◌, ◌-◌, ◌%◌, ◌∷◌, ◌++◌}
 use Rattle.std.specs.Int.Signed.{lt_z, le_z}
 use Rattle.machine.specs.Lists.{nth}
 

@@ -1,5 +1,6 @@
 -- Bytes, "Trace record: clock, transaction, block, outcome (0 entered, 1 began to wait)", the trace reader and the record writer.
-use Rattle.machine.specs.Basics.{ℕ, Bool, cond, ◌&&◌, List, [], ◌∷◌, ◌++◌, ltb, leb, length}
+use Rattle.std.specs.Prelude.{◌&&◌, ◌∷◌, ◌++◌}
+use Rattle.machine.specs.Basics.{ℕ, Bool, cond, List, [], ltb, leb, length}
 use Rattle.machine.specs.{Limits.max_transaction, Limits.max_blocks, Rules.Rules, Number.number_bytes}
 use Rattle.machine.specs.Parser.{Parser, Parsed, parsed, refused, ◌>>=◌, give, field_up_to}
 

@@ -1,7 +1,7 @@
 -- Lists, "A transaction has a number (from 1, in order of making), a priority 0..127, four signed 32-bit parameters (0 at
 -- first), a next block, a serial and a returning mark." The machine's lists hold transactions; none carries its place.
-use Rattle.machine.specs.Basics.{ℕ, Bool, false, ◌&&◌, ◌||◌, List, ltb, eqb, replicate}
-use Rattle.std.specs.Prelude.{ℤ, pos}
+use Rattle.machine.specs.Basics.{ℕ, Bool, false, List, ltb, eqb, replicate}
+use Rattle.std.specs.Prelude.{ℤ, pos, ◌&&◌, ◌||◌}
 use Rattle.machine.specs.Limits.{parameter_count}
 
 pub record Transaction : Type 0 where

@@ -1,10 +1,10 @@
 -- A turn: the taking, with the statistics before a clock move, one block, the WS scheme.
-use Rattle.machine.specs.Basics.{ℕ, zero, suc, ◌+◌, ◌*◌, ◌-◌, max, Bool, false, cond, not, List, [], ◌∷◌, map, Option, none, some, eqb, length}
+use Rattle.machine.specs.Basics.{ℕ, zero, suc, max, Bool, false, cond, not, List, [], map, Option, none, some, eqb, length}
 use Rattle.machine.specs.{Transaction.Transaction, Transaction.Event, Lists.those, Lists.others, State.State, Moves.to_rel, Moves.wake_wsl, Execute.question, Execute.effect}
 use Rattle.machine.specs.Term.{Server, Queue, View, Sum, Condition, truth}
 use Rattle.machine.specs.Block.{Block, facts, BlockModel, block_at}
 use Rattle.machine.specs.Setters.{with_returning, set_clock, set_servers, set_queues, set_view, set_rel, set_fel, set_moving, set_turns, set_end}
-use Rattle.std.specs.Prelude.{ℤ}
+use Rattle.std.specs.Prelude.{ℤ, ◌+◌, ◌*◌, ◌-◌, ◌∷◌}
 
 -- ---- Statistics, summed before each clock move (Bytes, "Report: ..")
 

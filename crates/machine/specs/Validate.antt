@@ -1,5 +1,6 @@
 -- "Questions at the door" in their order, from bytes.
-use Rattle.machine.specs.Basics.{ℕ, suc, Bool, true, cond, not, ◌&&◌, ◌||◌, List, [], ◌∷◌, leb, eqb, length}
+use Rattle.std.specs.Prelude.{◌&&◌, ◌||◌, ◌∷◌}
+use Rattle.machine.specs.Basics.{ℕ, suc, Bool, true, cond, not, List, [], leb, eqb, length}
 use Rattle.machine.specs.{Limits.work_numbers, Limits.report_room, Rules.Rules, Facts.is_generate, Decode.model_fields, Decode.at_end, Decode.list_field}
 use Rattle.machine.specs.Parser.{Cursor, Parser, Parsed, parsed, refused, ◌>>=◌, ◌>>◌, give, ask, times}
 use Rattle.machine.specs.Term.{Term, constant, minus_constant, parameter, clock_term, entries_of, content_of, units_in_use, units_free, facility_in_use, value, comparison, bracket, Sum, nothing, plus, minus}

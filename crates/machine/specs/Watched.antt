@@ -1,6 +1,7 @@
 -- What comparisons read and what blocks change of it: the things that the WAITIFs of a model name, through values. The rules ask every waiter
 -- after every turn; these definitions serve the law by which an engine need not.
-use Rattle.machine.specs.Basics.{ℕ, ◌-◌, ◌<◌, List, Option, none, some, length, get_or}
+use Rattle.std.specs.Prelude.{◌-◌, ◌<◌}
+use Rattle.machine.specs.Basics.{ℕ, List, Option, none, some, length, get_or}
 use Rattle.machine.specs.Term.{Term, constant, minus_constant, parameter, clock_term, entries_of, content_of, units_in_use, units_free, facility_in_use, value, comparison, bracket, Sum, nothing, plus, minus, Condition, always, when_true}
 use Rattle.machine.specs.Block.{share_server, Block, generate, advance, terminate, takes, frees, wait_server, wait_terms, moves, assign, priority, split, counts, assemble, preempt, give_back, facts, BlockModel, block_at}
 

@@ -1,5 +1,6 @@
 -- The row machine: how the moving transaction goes on or comes to wait.
-use Rattle.machine.specs.All.{ℕ, ◌+◌, ◌-◌, ◌%◌, min, cond, List, eqb}
+use Rattle.std.specs.Prelude.{◌+◌, ◌-◌, ◌%◌}
+use Rattle.machine.specs.All.{ℕ, min, cond, List, eqb}
 use Rattle.layout.specs.All.{most32}
 use Rattle.rows_laws.specs.All.{standing_field, next_field, serial_field, row_count, read, write, set_returning, line_up}
 use Rattle.state.specs.declared.scalars.Scalars.{Scalars}

@@ -4,7 +4,7 @@
 
 #![tactic(auto)]
 
-ghost use Rattle.machine.specs.All.{◌≡◌, ◌<◌, ◌≤◌};
+ghost use Rattle.std.specs.Prelude.{◌≡◌, ◌<◌, ◌≤◌};
 ghost use Rattle.rows_laws.specs.All.{Room, list_count, row_count};
 ghost use Rattle.moves.specs.Motion.{moved, with_outcome, go_to, go_on_lem, go_back, begin_wait, wait_on, stopped};
 

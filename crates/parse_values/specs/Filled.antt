@@ -1,5 +1,6 @@
 -- Several things, read one after the other and stored in rows of one width.
-use Rattle.machine.specs.All.{ℕ, zero, suc, ◌+◌, ◌≡◌, List, [], ◌∷◌, sets, Parsed, parsed, refused, Parser, continue}
+use Rattle.std.specs.Prelude.{◌+◌, ◌≡◌, ◌∷◌}
+use Rattle.machine.specs.All.{ℕ, zero, suc, List, [], sets, Parsed, parsed, refused, Parser, continue}
 use Rattle.parse_values.specs.{declared.Place.Place, declared.Stored.Stored, declared.Stored.TheVariants.Done, declared.Stored.TheVariants.Refused, Keeps.place_of, Keeps.Shape}
 
 module _ {A : Type 0} where

@@ -1,6 +1,7 @@
 -- What reading and storing gives: by cases on what a parser of the machine gives, the answer, the cells of the tables and
 -- what else is known of the thing that was read.
-use Rattle.machine.specs.All.{ℕ, suc, ◌+◌, ◌-◌, ◌≤◌, ◌<◌, ◌≡◌, List, [], ◌∷◌, sets, max_value_numbers, Cursor, Parsed, parsed, refused}
+use Rattle.std.specs.Prelude.{◌+◌, ◌-◌, ◌≤◌, ◌<◌, ◌≡◌, ◌∷◌}
+use Rattle.machine.specs.All.{ℕ, suc, List, [], sets, max_value_numbers, Cursor, Parsed, parsed, refused}
 use Rattle.layout.specs.All.{word_end}
 use Rattle.parse_values.specs.{declared.Place.Place, declared.Taken.Taken, declared.Taken.TheVariants.Number, declared.Taken.TheVariants.Refused as NotTaken, declared.Stored.Stored, declared.Stored.TheVariants.Done, declared.Stored.TheVariants.Refused}
 

@@ -1,5 +1,6 @@
 -- How numbers, terms, sums and values are kept (Keeps.antt), and the largest block number that they name.
-use Rattle.machine.specs.All.{ℕ, ◌+◌, ◌≤◌, max, ◌≡◌, cond, List, ◌∷◌, eqb, T, length, drop, max_facilities, max_storages, max_queues, max_values, max_lists, max_blocks, max_constant, parameter_count, max_value_numbers, Cursor, Parser, Counts, simple_term, value_number, mention_field, Term, constant, minus_constant, parameter, clock_term, entries_of, content_of, units_in_use, units_free, facility_in_use, value, comparison, bracket, Sum, nothing, plus, minus}
+use Rattle.std.specs.Prelude.{◌+◌, ◌≤◌, ◌≡◌, ◌∷◌}
+use Rattle.machine.specs.All.{ℕ, max, cond, List, eqb, T, length, drop, max_facilities, max_storages, max_queues, max_values, max_lists, max_blocks, max_constant, parameter_count, max_value_numbers, Cursor, Parser, Counts, simple_term, value_number, mention_field, Term, constant, minus_constant, parameter, clock_term, entries_of, content_of, units_in_use, units_free, facility_in_use, value, comparison, bracket, Sum, nothing, plus, minus}
 use Rattle.constants.specs.declared.model.Model.{Model}
 use Rattle.layout.specs.All.{term_numbers, signed_terms, sum_numbers, terms, small_term, small_sum}
 use Rattle.parse_values.specs.{declared.Place.Place, declared.Range.Range, Keeps.Shape}

@@ -3,7 +3,8 @@
 
 #![tactic(auto)]
 
-ghost use Rattle.machine.specs.All.{◌≡◌, [], ℕ, ◌+◌, ◌*◌, ◌≤◌, ◌<◌, max_values, field, value_number, comparison_field, sum_field, sum_terms, value_term, value_field, value_fields, block_term};
+ghost use Rattle.std.specs.Prelude.{◌≡◌, ◌+◌, ◌*◌, ◌≤◌, ◌<◌};
+ghost use Rattle.machine.specs.All.{[], ℕ, max_values, field, value_number, comparison_field, sum_field, sum_terms, value_term, value_field, value_fields, block_term};
 ghost use Rattle.layout.specs.Layout as Layout;
 ghost use Rattle.layout.specs.All.{value_width, tables_size, word_end};
 ghost use Rattle.parse_values.specs.Keeps.{Fits, Takes, Stores, cursor_of, plain_shape, number_shape, counted_shape};

@@ -1,5 +1,8 @@
 // 19 PREEMPT f and 20 RETURN f (document 02, item 11).
-ghost use Rattle.machine.specs.All.{◌≡◌, ◌<◌};
+
+#![tactic(auto)]
+
+ghost use Rattle.std.specs.Prelude.{◌≡◌, ◌<◌};
 ghost use Rattle.layout.specs.All.{program_size, server_count};
 ghost use Rattle.rows_laws.specs.All.{Room, row_count};
 ghost use Rattle.moves.specs.Motion.{moved};

@@ -1,5 +1,5 @@
 -- 19 PREEMPT and 20 RETURN do to the rows what the machine does to its state (document 02, item 11).
-use Rattle.machine.specs.All.{ℕ, suc, ◌+◌, ◌-◌, ◌≤◌, ◌<◌, min, ◌≡◌, refl, sym, ap, ◌∙◌, ◌≢◌, Bool, true, false, cond, not, ◌&&◌, List, [], ◌∷◌, ◌++◌, map, map-append, none, arith, lt-ltb, le-ltb, leb-true, leb-false, eq-eqb, ne_eqb, eqb-true, ltb, leb, eqb, length, drop, Transaction, Event, Interrupted, precedes, earlier, insert, those, replace_first, bit, Server, Block, facility, share_server, share_units, share_holder, preempt, give_back, BlockModel, State, with_serial, with_stamp, set_moving, to_fel, of_facility, interrupted_at, loses_to, losers_to, interrupt, resume, set_holder, unless, question, ask_gives_back, preempting, gives_back, wake_for, part_for, Each}
+use Rattle.machine.specs.All.{ℕ, suc, ◌+◌, ◌-◌, ◌≤◌, ◌<◌, min, ◌≡◌, refl, sym, ap, ◌∙◌, ◌≢◌, Bool, true, false, cond, not, ◌&&◌, List, [], ◌∷◌, ◌++◌, map, map-append, none, arith, lt-ltb, le-ltb, leb-true, leb-false, eq-eqb, ne_eqb, eqb-true, ltb, leb, eqb, length, drop, Transaction, Event, Interrupted, precedes, earlier, insert, those, replace_first, bit, Server, Block, share_server, share_units, share_holder, preempt, give_back, BlockModel, State, with_serial, with_stamp, set_moving, to_fel, of_facility, interrupted_at, loses_to, losers_to, interrupt, resume, set_holder, unless, question, ask_gives_back, preempting, gives_back, wake_for, part_for, Each}
 use Rattle.machine.specs.Term
 use Rattle.machine.specs.Moves as Moves
 use Rattle.machine.specs.Execute as Execute

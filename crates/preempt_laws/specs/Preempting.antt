@@ -1,6 +1,7 @@
 -- The row machine: 19 PREEMPT and 20 RETURN (document 02, item 11). The one from whom a facility was taken stands on the facility's list of
 -- interrupted ones, with its remaining ticks in the place of its move time.
-use Rattle.machine.specs.All.{ℕ, ◌+◌, ◌-◌, Bool, false, cond, List, ltb, eqb}
+use Rattle.std.specs.Prelude.{◌+◌, ◌-◌}
+use Rattle.machine.specs.All.{ℕ, Bool, false, cond, List, ltb, eqb}
 use Rattle.rows_laws.specs.All.{number_field, interrupted, row_count, read, priority_of, time_of, set_time, put, first, take_first, cancel, find_loser}
 use Rattle.state.specs.{declared.scalars.Scalars.Scalars, All.Rows, All.rows_of}
 use Rattle.moves.specs.Motion.{Moved, stopped}

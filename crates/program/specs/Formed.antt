@@ -1,5 +1,6 @@
 -- Question 7 over rows of numbers, and what is known of a block that was read.
-use Rattle.machine.specs.All.{ℕ, zero, suc, ◌+◌, ◌*◌, ◌-◌, ◌≤◌, ◌≡◌, Bool, true, false, cond, not, ◌&&◌, ◌||◌, List, eqb, ltb, leb, T, length, get_or, max_back, Block, facts, is_generate}
+use Rattle.std.specs.Prelude.{◌+◌, ◌*◌, ◌-◌, ◌≤◌, ◌≡◌, ◌&&◌, ◌||◌}
+use Rattle.machine.specs.All.{ℕ, zero, suc, Bool, true, false, cond, not, List, eqb, ltb, leb, T, length, get_or, max_back, Block, facts, is_generate}
 use Rattle.layout.specs.All.{block_numbers, small_block}
 
 -- ---- By the numbers of a row

@@ -1,5 +1,6 @@
 -- How operands and blocks are kept in the tables.
-use Rattle.machine.specs.All.{ℕ, ◌+◌, ◌-◌, ◌≤◌, ◌≡◌, List, [], ◌∷◌, ◌++◌, T, length, take, drop, nth, Parser, parsed, continue, field, Term, code_index, Block, Counts, block_term, code_of, code_server}
+use Rattle.std.specs.Prelude.{◌+◌, ◌-◌, ◌≤◌, ◌≡◌, ◌∷◌, ◌++◌}
+use Rattle.machine.specs.All.{ℕ, List, [], T, length, take, drop, nth, Parser, parsed, continue, field, Term, code_index, Block, Counts, block_term, code_of, code_server}
 use Rattle.constants.specs.declared.model.Model.{Model}
 use Rattle.layout.specs.Layout as Layout
 use Rattle.layout.specs.All.{term_numbers, block_numbers, small_term}

@@ -3,7 +3,8 @@
 
 #![tactic(auto)]
 
-ghost use Rattle.machine.specs.All.{◌≡◌, true, ◌&&◌, not, ◌+◌, ◌*◌, ◌≤◌, ◌<◌, eqb, max_back, max_blocks, in_force, field, times, operands as operandsField, block_field};
+ghost use Rattle.std.specs.Prelude.{◌≡◌, ◌&&◌, ◌+◌, ◌*◌, ◌≤◌, ◌<◌};
+ghost use Rattle.machine.specs.All.{true, not, eqb, max_back, max_blocks, in_force, field, times, operands as operandsField, block_field};
 ghost use Rattle.layout.specs.All.{block_width, program_size, tables_size, word_end};
 ghost use Rattle.parse_values.specs.Keeps.{Fits, Stores, cursor_of, number_shape};
 ghost use Rattle.parse_values.specs.Filled.{Filled};

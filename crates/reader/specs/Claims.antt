@@ -1,5 +1,6 @@
 -- What calls of `next` answer, one after the other, and what they leave.
-use Rattle.machine.specs.All.{ℕ, zero, suc, ◌+◌, List, [], ◌∷◌, ◌++◌, map, Option, none, some, ◌≡◌, length, replicate, in_force, Record, Reading, taken, refusal, no_more, read_record}
+use Rattle.std.specs.Prelude.{◌+◌, ◌∷◌, ◌++◌, ◌≡◌}
+use Rattle.machine.specs.All.{ℕ, zero, suc, List, [], map, Option, none, some, length, replicate, in_force, Record, Reading, taken, refusal, no_more, read_record}
 use Rattle.trace.specs.Whole.{Reads}
 use Rattle.reader.specs.{declared.Reader.Reader, Position.moved}
 

@@ -3,7 +3,8 @@
 
 #![tactic(auto)]
 
-ghost use Rattle.machine.specs.All.{◌≡◌, in_force, count_low, read_record};
+ghost use Rattle.std.specs.Prelude.{◌≡◌};
+ghost use Rattle.machine.specs.All.{in_force, count_low, read_record};
 ghost use Rattle.trace.specs.Answers.{reading_of};
 ghost use Rattle.reader.specs.Position.{position_behind, moved};
 

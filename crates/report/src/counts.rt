@@ -1,5 +1,6 @@
 // The numbers of servers and queues, from tables and tally.
-ghost use Rattle.machine.specs.All.{◌≡◌, ◌+◌, ◌≤◌, ◌<◌, max_blocks, max_queues};
+ghost use Rattle.std.specs.Prelude.{◌≡◌, ◌+◌, ◌≤◌, ◌<◌};
+ghost use Rattle.machine.specs.All.{max_blocks, max_queues};
 ghost use Rattle.layout.specs.Layout as Layout;
 ghost use Rattle.layout.specs.All.{server_count};
 ghost use Rattle.state.specs.All.{sum_now, longest_now};

@@ -7,7 +7,8 @@
 mod counts;
 mod living;
 
-ghost use Rattle.machine.specs.All.{◌≡◌, [], ◌∷◌, min};
+ghost use Rattle.std.specs.Prelude.{◌≡◌, ◌∷◌};
+ghost use Rattle.machine.specs.All.{[], min};
 ghost use Rattle.rows_laws.specs.All.{Room};
 ghost use Rattle.report_laws.specs.Numbers.{row_numbers};
 ghost use Rattle.report_laws.specs.Writing.{written, put_all};

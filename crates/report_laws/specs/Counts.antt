@@ -1,5 +1,6 @@
 -- The numbers of one server and of one queue, from tables and tally. Servers, queues and blocks are indices from 0.
-use Rattle.machine.specs.All.{ℕ, zero, suc, ◌+◌, ◌*◌, min, Bool, false, true, cond, List, [], ◌∷◌, ◌++◌, eqb, get_or}
+use Rattle.std.specs.Prelude.{◌+◌, ◌*◌, ◌∷◌, ◌++◌}
+use Rattle.machine.specs.All.{ℕ, zero, suc, min, Bool, false, true, cond, List, [], eqb, get_or}
 use Rattle.layout.specs.Layout as Layout
 use Rattle.state.specs.All.{sum_now, longest_now}
 

@@ -1,5 +1,6 @@
 -- The numbers of the report, from what a run leaves: header, tables, tally, work buffer and scalars.
-use Rattle.machine.specs.All.{ℕ, ◌+◌, min, List, [], ◌∷◌, ◌++◌, replicate, max_facilities, max_storages, max_blocks, max_queues}
+use Rattle.std.specs.Prelude.{◌+◌, ◌∷◌, ◌++◌}
+use Rattle.machine.specs.All.{ℕ, min, List, [], replicate, max_facilities, max_storages, max_blocks, max_queues}
 use Rattle.rows_laws.specs.All.{row_count}
 use Rattle.constants.specs.declared.model.Model.{Model}
 use Rattle.state.specs.declared.scalars.Scalars.{Scalars}

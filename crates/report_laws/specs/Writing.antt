@@ -1,5 +1,6 @@
 -- Numbers written one after another into the report buffer, each where there is room for it (`put` of crate codec).
-use Rattle.machine.specs.All.{ℕ, List, [], ◌∷◌}
+use Rattle.std.specs.Prelude.{◌∷◌}
+use Rattle.machine.specs.All.{ℕ, List, []}
 pub use Rattle.codec.specs.Writing.{Written}
 unfoldable pub use Rattle.codec.specs.Writing.{written, put}
 

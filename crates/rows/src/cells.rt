@@ -1,6 +1,7 @@
 // Single numbers of the buffer, and the fields of a row.
 
-ghost use Rattle.machine.specs.All.{◌≡◌, ◌+◌, ◌*◌, ◌<◌, ◌≤◌, work_numbers};
+ghost use Rattle.std.specs.Prelude.{◌≡◌, ◌+◌, ◌*◌, ◌<◌, ◌≤◌};
+ghost use Rattle.machine.specs.All.{work_numbers};
 ghost use Rattle.rows_laws.specs.All.{row_count, field_count, Room, load, store, read, write, priority_of, set_returning, time_of, set_time};
 
 use crate::{FIELD_WIDTH, STANDING, TIME, TIME_HIGH, WORD_END, WORK_NUMBERS};

@@ -1,6 +1,6 @@
 // A clock move: all of one time go from the FEL to REL.
 
-ghost use Rattle.machine.specs.All.{◌≡◌, ◌+◌, ◌<◌, ◌≤◌};
+ghost use Rattle.std.specs.Prelude.{◌≡◌, ◌+◌, ◌<◌, ◌≤◌};
 ghost use Rattle.rows_laws.specs.All.{row_count, serial_end, Room, is_due, arrive_row, arrive_first, arrived, arrive};
 
 use crate::cells::{get, set_returning, time, write};

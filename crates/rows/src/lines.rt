@@ -1,7 +1,7 @@
 // Lines: how a waiter comes onto a QL or WEL. Under edition 1 in order; under edition 2 (document 02, item 12) "a returning transaction
 // goes to the very front" and "others are placed from the back, behind the first member met of equal or higher priority".
 
-ghost use Rattle.machine.specs.All.{◌≡◌, ◌<◌, ◌≤◌};
+ghost use Rattle.std.specs.Prelude.{◌≡◌, ◌<◌, ◌≤◌};
 ghost use Rattle.rows_laws.specs.All.{row_count, list_count, Room, at_least, found_at, last_cell, last_meets, back_before, back_spot, second_spot, line_up};
 
 use crate::cells::{get, load, priority, read};

@@ -1,6 +1,6 @@
 // Rows that come to life and end, and the buffer at the start of a run.
 
-ghost use Rattle.machine.specs.All.{◌≡◌, ◌<◌, ◌≤◌};
+ghost use Rattle.std.specs.Prelude.{◌≡◌, ◌<◌, ◌≤◌};
 ghost use Rattle.rows_laws.specs.All.{row_count, list_count, priority_end, Room, free, first, take_first, clear_parameters, copy_parameters, describe, newborn_at, copy_at, free_row, empty_list, empty_lists, loose_rows, free_rows, initial};
 
 use crate::cells::{read, set, set_time, write};

@@ -1,6 +1,6 @@
 // Who stands before whom on a list.
 
-ghost use Rattle.machine.specs.All.{◌≡◌, ◌<◌};
+ghost use Rattle.std.specs.Prelude.{◌≡◌, ◌<◌};
 ghost use Rattle.rows_laws.specs.All.{row_count, Room, outranks, sooner_at};
 
 use crate::SERIAL;

@@ -1,6 +1,6 @@
 // Moves to REL from the lists on which one waits.
 
-ghost use Rattle.machine.specs.All.{◌≡◌, ◌<◌, ◌≤◌};
+ghost use Rattle.std.specs.Prelude.{◌≡◌, ◌<◌, ◌≤◌};
 ghost use Rattle.rows_laws.specs.All.{row_count, list_count, Room, wake_row, wake_at, wake_first, after, pass_rows, pass_cell};
 
 use crate::cells::{load, set_returning};

@@ -1,7 +1,7 @@
 // A whole list goes to REL, before all who are there. Its rows are found by their places, in parts of the buffer from the end on; its chain
 // is then joined to that of REL.
 
-ghost use Rattle.machine.specs.All.{◌≡◌, ◌-◌, ◌<◌, ◌≤◌};
+ghost use Rattle.std.specs.Prelude.{◌≡◌, ◌-◌, ◌<◌, ◌≤◌};
 ghost use Rattle.rows_laws.specs.All.{row_count, list_count, part_rows, part_count, place, Room, load, ready_place, ready_standing, one_if, ready_row, ready_rows, ready_count, ready_parts, join_at, join_ready, wake_whole};
 
 use crate::cells::{get, read, set, store, write};

@@ -1,5 +1,6 @@
 -- Single numbers of the buffer.
-use Rattle.machine.specs.All.{ℕ, ◌+◌, ◌*◌, ◌/◌, ◌%◌, cond, List, ltb, get_or, set, work_numbers}
+use Rattle.std.specs.Prelude.{◌+◌, ◌*◌, ◌/◌, ◌%◌}
+use Rattle.machine.specs.All.{ℕ, cond, List, ltb, get_or, set, work_numbers}
 use Rattle.rows_laws.specs.Layout.{field_at, standing_field, time_field, time_high_field, word_end}
 
 abbrev pub load : List ℕ → ℕ → ℕ

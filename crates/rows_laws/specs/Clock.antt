@@ -1,5 +1,6 @@
 -- A clock move: the row machine takes all of one time from the FEL to REL; and the REL that the machine then has.
-use Rattle.machine.specs.All.{ℕ, zero, suc, Bool, false, cond, ◌&&◌, List, [], ◌∷◌, ltb, eqb, Transaction, Event, precedes, with_serial, with_returning, insert}
+use Rattle.std.specs.Prelude.{◌&&◌, ◌∷◌}
+use Rattle.machine.specs.All.{ℕ, zero, suc, Bool, false, cond, List, [], ltb, eqb, Transaction, Event, precedes, with_serial, with_returning, insert}
 use Rattle.rows_laws.specs.Layout.{serial_field, rel, fel, row_count}
 use Rattle.rows_laws.specs.{Cells.write, Cells.set_returning, Cells.time_of, Lists.put, Lists.first, Future.cancel}
 

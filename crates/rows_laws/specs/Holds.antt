@@ -1,6 +1,7 @@
 -- What the buffer represents: the rows of each list, and each row as a transaction. Owned by this file; the laws over it are in
 -- proofs/.
-use Rattle.machine.specs.All.{ℕ, ◌+◌, ◌%◌, ◌≤◌, ◌<◌, ◌≡◌, ◌≢◌, false, cond, List, [], ◌∷◌, eqb, length, Transaction, Event}
+use Rattle.std.specs.Prelude.{◌+◌, ◌%◌, ◌≤◌, ◌<◌, ◌≡◌, ◌≢◌, ◌∷◌}
+use Rattle.machine.specs.All.{ℕ, false, cond, List, [], eqb, length, Transaction, Event}
 use Rattle.std.specs.Int.{w32}
 use Rattle.std.proofs.Common.{to_z}
 use Rattle.rows_laws.specs.Layout.{row_count, list_count, Room, slot, place, link, head, tail, fel, number_field, standing_field, parameter_field, next_field, serial_field, family_field}

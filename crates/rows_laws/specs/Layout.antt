@@ -19,7 +19,8 @@
 -- | server - 1: 0..63 | | WEL | 64 + (server - 1) * 6 + (code - 1): 64..447 | | WSL | 448 | | REL | 449 | | gatherers | 450 + (block - 1):
 -- 450..705 | | interrupted | 706 + (facility - 1): 706..769, at most one | | FEL | 770 | | free | 771: the rows that are not living | |
 -- others | there are none: behind the heads stand 252 hints (Lists), behind the tails 64 rows of holders (Future) |
-use Rattle.machine.specs.All.{ℕ, ◌+◌, ◌*◌, ◌-◌, ◌%◌, ◌≤◌, List, length, work_numbers, Code, wel_index}
+use Rattle.std.specs.Prelude.{◌+◌, ◌*◌, ◌-◌, ◌%◌, ◌≤◌}
+use Rattle.machine.specs.All.{ℕ, List, length, work_numbers, Code, wel_index}
 
 -- ---- Sizes
 

@@ -1,5 +1,6 @@
 -- The row machine: how a waiter comes onto a QL or WEL, by the model's edition (document 02, item 12). The cursor is a cell.
-use Rattle.machine.specs.All.{ℕ, zero, suc, ◌-◌, ◌%◌, Bool, false, cond, List, ltb, leb, eqb}
+use Rattle.std.specs.Prelude.{◌-◌, ◌%◌}
+use Rattle.machine.specs.All.{ℕ, zero, suc, Bool, false, cond, List, ltb, leb, eqb}
 use Rattle.rows_laws.specs.Layout.{link, head, tail, links, row_count, standing_field}
 use Rattle.rows_laws.specs.{Cells.load, Cells.read, Cells.priority_of, Lists.insert_at, Lists.put}
 

@@ -1,5 +1,6 @@
 -- How many rows stand where.
-use Rattle.machine.specs.All.{ℕ, zero, suc, ◌+◌, cond, List, ltb, length, Transaction, Event}
+use Rattle.std.specs.Prelude.{◌+◌}
+use Rattle.machine.specs.All.{ℕ, zero, suc, cond, List, ltb, length, Transaction, Event}
 use Rattle.rows_laws.specs.Layout.{place, list_count, fel, row_count}
 use Rattle.rows_laws.specs.Cells.{load}
 

@@ -1,5 +1,6 @@
 -- The row machine: rows that come to life and end, and the buffer at the start of a run.
-use Rattle.machine.specs.All.{ℕ, zero, suc, ◌+◌, ◌*◌, ◌/◌, List}
+use Rattle.std.specs.Prelude.{◌+◌, ◌*◌, ◌/◌}
+use Rattle.machine.specs.All.{ℕ, zero, suc, List}
 use Rattle.rows_laws.specs.Layout.{place, head, tail, fel, free, nowhere, number_field, standing_field, next_field, serial_field, family_field, list_count, row_count, parameter_field}
 use Rattle.rows_laws.specs.Cells.{store, read, write, set_time}
 use Rattle.rows_laws.specs.Lists.{insert_at}

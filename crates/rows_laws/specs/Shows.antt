@@ -1,5 +1,6 @@
 -- What the buffer shows of the machine's lists.
-use Rattle.machine.specs.All.{ℕ, ◌<◌, ◌≡◌, Bool, false, cond, List, map, ltb, Transaction, Event, precedes}
+use Rattle.std.specs.Prelude.{◌<◌, ◌≡◌}
+use Rattle.machine.specs.All.{ℕ, Bool, false, cond, List, map, ltb, Transaction, Event, precedes}
 use Rattle.rows_laws.specs.Layout.{place, wsl, rel, fel, nowhere, row_count}
 use Rattle.rows_laws.specs.{Cells.load, Ordered.Ordered}
 use Rattle.rows_laws.specs.Holds.{transaction_at, event_at, Holds, update}

@@ -1,6 +1,7 @@
 -- The row machine: a whole list goes to REL, before all who are there. Its rows are found by their places, in parts of the buffer from the
 -- end on, until all are; its chain is then joined to that of REL.
-use Rattle.machine.specs.All.{ℕ, zero, suc, ◌+◌, ◌*◌, ◌-◌, ◌/◌, cond, List, ltb, eqb}
+use Rattle.std.specs.Prelude.{◌+◌, ◌*◌, ◌-◌, ◌/◌}
+use Rattle.machine.specs.All.{ℕ, zero, suc, cond, List, ltb, eqb}
 use Rattle.rows_laws.specs.Layout.{place, head, tail, rel, standing_field, field_at, row_count}
 use Rattle.rows_laws.specs.{Cells.load, Cells.store, Cells.read, Lists.first, Make.empty_list}
 

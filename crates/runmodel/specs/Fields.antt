@@ -1,5 +1,6 @@
 -- The numbers of a report as runmodel reads them, from bytes and a position; and the header of an accepted model.
-use Rattle.machine.specs.All.{ℕ, zero, suc, ◌+◌, List, [], ◌∷◌, Option, none, some, drop, max_report_number_bytes, max_report_number, Number, read_number, Validation, accept, reject}
+use Rattle.std.specs.Prelude.{◌+◌, ◌∷◌}
+use Rattle.machine.specs.All.{ℕ, zero, suc, List, [], Option, none, some, drop, max_report_number_bytes, max_report_number, Number, read_number, Validation, accept, reject}
 use Rattle.constants.specs.declared.model.Model.{Model}
 use Rattle.layout.specs.All.{header_of}
 use Rattle.runmodel.specs.declared.printing.Field.{Field}

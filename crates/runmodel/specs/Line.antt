@@ -1,5 +1,6 @@
 -- A line that runmodel prints: letters, then numbers in decimal with one space between, then a line feed.
-use Rattle.machine.specs.All.{ℕ, zero, suc, ◌+◌, ◌/◌, ◌%◌, cond, List, [], ◌∷◌, ◌++◌, ltb}
+use Rattle.std.specs.Prelude.{◌+◌, ◌/◌, ◌%◌, ◌∷◌, ◌++◌}
+use Rattle.machine.specs.All.{ℕ, zero, suc, cond, List, [], ltb}
 
 -- a number of 64 bits has at most 20 digits, and one byte stands behind it; a line is eight letters and six numbers
 abbrev pub digits : ℕ

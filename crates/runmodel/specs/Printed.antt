@@ -1,7 +1,8 @@
 -- The whole text that runmodel prints (document 01, the first example): "prints records, then `end` with end, clock, made, ended,
 -- living, then per facility `f`, per storage `s`, per queue `q`, each with its number and its report fields, one space between; a
 -- refused pair prints only `refused` and the number". Each line is `line` of its letters and numbers.
-use Rattle.machine.specs.All.{ℕ, suc, List, [], ◌∷◌, ◌++◌, map, length, take, drop, in_force, work_numbers, report_room, flat, Server, Queue, BlockModel, Record, State, run, server_numbers, queue_numbers, places, Validation, accept, reject, validate, records_of}
+use Rattle.std.specs.Prelude.{◌∷◌, ◌++◌}
+use Rattle.machine.specs.All.{ℕ, suc, List, [], map, length, take, drop, in_force, work_numbers, report_room, flat, Server, Queue, BlockModel, Record, State, run, server_numbers, queue_numbers, places, Validation, accept, reject, validate, records_of}
 use Rattle.runmodel.specs.Line.{line}
 
 -- "budget 1,000,000; trace buffer 65,536 bytes; of each file the first 65,536"

@@ -1,6 +1,7 @@
 // The first bytes of a file.
 ghost use Rattle.io.specs.Counts.{IsPrefixLen};
-ghost use Rattle.machine.specs.All.{◌≡◌, ℕ, ◌≤◌, length};
+ghost use Rattle.std.specs.Prelude.{◌≡◌, ◌≤◌};
+ghost use Rattle.machine.specs.All.{ℕ, length};
 
 use std::io::Read;
 use std::rt::Files;

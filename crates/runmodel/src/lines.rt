@@ -1,5 +1,6 @@
 // Lines of text: letters, then numbers with one space between, then a line feed.
-ghost use Rattle.machine.specs.All.{◌≡◌, ◌+◌, ◌*◌, ◌≤◌, ◌<◌, length, drop, sets};
+ghost use Rattle.std.specs.Prelude.{◌≡◌, ◌+◌, ◌*◌, ◌≤◌, ◌<◌};
+ghost use Rattle.machine.specs.All.{length, drop, sets};
 ghost use Rattle.runmodel.specs.Line.{number_room, line_room, numeral as Line·numeral, behind as Line·behind, numerals as Line·numerals, line as Line·line};
 
 // Room for eight letters and six numbers of at most twenty digits, each with the byte behind it.

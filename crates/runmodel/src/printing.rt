@@ -1,5 +1,6 @@
 // What is printed.
-ghost use Rattle.machine.specs.All.{◌≡◌, ◌+◌, ◌*◌, ◌≤◌, length, sets, in_force, work_numbers, report_room, validate};
+ghost use Rattle.std.specs.Prelude.{◌≡◌, ◌+◌, ◌*◌, ◌≤◌};
+ghost use Rattle.machine.specs.All.{length, sets, in_force, work_numbers, report_room, validate};
 ghost use Rattle.runmodel.specs.Fields.{field_at, numbers_at, behind_numbers, behind_things, header_for};
 ghost use Rattle.runmodel.specs.Line.{letter_room, number_room, line_room};
 

@@ -1,5 +1,5 @@
 // 5 RELEASE f and 7 LEAVE s, b, which ask first whether the units are in use; a RELEASE then asks for the holder.
-ghost use Rattle.machine.specs.All.{◌≡◌, ◌+◌, ◌<◌, ◌≤◌};
+ghost use Rattle.std.specs.Prelude.{◌≡◌, ◌+◌, ◌<◌, ◌≤◌};
 ghost use Rattle.layout.specs.All.{program_size, server_count};
 ghost use Rattle.rows_laws.specs.All.{Room, row_count};
 ghost use Rattle.moves.specs.Motion.{moved, with_outcome};

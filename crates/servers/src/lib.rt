@@ -1,5 +1,8 @@
 // The blocks on servers: 4 SEIZE, 5 RELEASE, 6 ENTER, 7 LEAVE, 8 WAITIF code, server and 17. Servers are numbered from 0 here, the
 // facilities first. Units in use and lengths of QLs stand in the tally, capacities in the tables.
+
+#![tactic(auto)]
+
 pub mod freeing;
 pub mod taking;
 pub mod units;

@@ -1,5 +1,5 @@
 // 4 SEIZE f and 6 ENTER s, b: a SEIZE takes one unit, and its transaction holds the facility.
-ghost use Rattle.machine.specs.All.{◌≡◌, ◌+◌, ◌<◌, ◌≤◌};
+ghost use Rattle.std.specs.Prelude.{◌≡◌, ◌+◌, ◌<◌, ◌≤◌};
 ghost use Rattle.layout.specs.All.{program_size, server_count};
 ghost use Rattle.rows_laws.specs.All.{Room, row_count};
 ghost use Rattle.state.specs.All.{rows_of};

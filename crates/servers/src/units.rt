@@ -1,5 +1,6 @@
 // Units, holders, capacities and status codes of servers.
-ghost use Rattle.machine.specs.All.{◌≡◌, ◌+◌, ◌<◌, ◌≤◌, length};
+ghost use Rattle.std.specs.Prelude.{◌≡◌, ◌+◌, ◌<◌, ◌≤◌};
+ghost use Rattle.machine.specs.All.{length};
 ghost use Rattle.layout.specs.All.{server_count, word_end, tally_size};
 ghost use Rattle.servers_laws.specs.Units.{server_at, in_use, holder, preempted, residue_cell, held_less, held_more, store_use, set_use, change_use, capacity, status_of};
 

@@ -1,5 +1,6 @@
 // 8 WAITIF code, server, and 17 (document 02, item 7) code, server, back count.
-ghost use Rattle.machine.specs.All.{◌≡◌, ◌&&◌, ◌+◌, ◌*◌, ◌-◌, ◌<◌, ◌≤◌, max_back};
+ghost use Rattle.std.specs.Prelude.{◌≡◌, ◌&&◌, ◌+◌, ◌*◌, ◌-◌, ◌<◌, ◌≤◌};
+ghost use Rattle.machine.specs.All.{max_back};
 ghost use Rattle.layout.specs.All.{block_width, program_size};
 ghost use Rattle.rows_laws.specs.All.{Room, list_count, row_count};
 ghost use Rattle.moves.specs.Motion.{moved};

@@ -1,5 +1,6 @@
 // Whom a change of a server's units wakes: the first of its QL or those that fit, and the first of each WEL whose code is not true.
-ghost use Rattle.machine.specs.All.{◌≡◌, ◌+◌, ◌<◌, ◌≤◌, max_blocks};
+ghost use Rattle.std.specs.Prelude.{◌≡◌, ◌+◌, ◌<◌, ◌≤◌};
+ghost use Rattle.machine.specs.All.{max_blocks};
 ghost use Rattle.layout.specs.All.{code_count, program_size, server_count};
 ghost use Rattle.rows_laws.specs.All.{head, Room, row_count, wake_walk, wake_first};
 ghost use Rattle.servers_laws.specs.Waking.{check_wel, check_first, check_last, check_wels, shorter, units_at, member_units, member_fits, leave_with, taken_off, left_behind, member_left, steps, one_unless, wake_stays, too_many_lem, none_too_many, ahead_of, at_once_lem, woken_rows, woken_length};

@@ -1,5 +1,6 @@
 -- The row machine: 5 RELEASE and 7 LEAVE.
-use Rattle.machine.specs.All.{ℕ, ◌+◌, ◌-◌, cond, List, ltb, eqb, get_or, set}
+use Rattle.std.specs.Prelude.{◌+◌, ◌-◌}
+use Rattle.machine.specs.All.{ℕ, cond, List, ltb, eqb, get_or, set}
 use Rattle.layout.specs.Layout as Layout
 use Rattle.rows_laws.specs.All.{number_field, read, wake_first}
 use Rattle.state.specs.{declared.scalars.Scalars.Scalars, All.Rows, All.rows_of}

@@ -1,5 +1,6 @@
 -- The row machine: 4 SEIZE and 6 ENTER.
-use Rattle.machine.specs.All.{ℕ, ◌+◌, ◌-◌, min, cond, List, leb, get_or, set}
+use Rattle.std.specs.Prelude.{◌+◌, ◌-◌}
+use Rattle.machine.specs.All.{ℕ, min, cond, List, leb, get_or, set}
 use Rattle.layout.specs.Layout as Layout
 use Rattle.rows_laws.specs.All.{number_field, read, keep_holder}
 use Rattle.state.specs.{declared.scalars.Scalars.Scalars, All.update_server, All.Rows}

@@ -1,5 +1,6 @@
 -- The row machine: units, holders, capacities and status codes of servers, which count from 0 here.
-use Rattle.machine.specs.All.{ℕ, ◌+◌, ◌-◌, ◌%◌, min, Bool, cond, not, List, ltb, eqb, length, get_or, set}
+use Rattle.std.specs.Prelude.{◌+◌, ◌-◌, ◌%◌}
+use Rattle.machine.specs.All.{ℕ, min, Bool, cond, not, List, ltb, eqb, length, get_or, set}
 use Rattle.layout.specs.Layout as Layout
 use Rattle.state.specs.All.{update_server}
 

@@ -1,5 +1,6 @@
 -- The row machine: 8 WAITIF code, server, and 17 code, server, back count.
-use Rattle.machine.specs.All.{ℕ, zero, suc, ◌+◌, ◌*◌, ◌%◌, Bool, false, cond, ◌&&◌, List, ltb, eqb, get_or, max_back}
+use Rattle.std.specs.Prelude.{◌+◌, ◌*◌, ◌%◌, ◌&&◌}
+use Rattle.machine.specs.All.{ℕ, zero, suc, Bool, false, cond, List, ltb, eqb, get_or, max_back}
 use Rattle.layout.specs.All.{code_count, edition}
 use Rattle.rows_laws.specs.All.{wels, time_of, set_time, wake_first}
 use Rattle.state.specs.declared.scalars.Scalars.{Scalars}

@@ -1,5 +1,6 @@
 -- The row machine: whom a change of a server's units wakes.
-use Rattle.machine.specs.All.{ℕ, zero, suc, ◌+◌, ◌*◌, ◌-◌, ◌%◌, Bool, true, false, cond, List, ltb, leb, eqb, get_or, set, max_blocks}
+use Rattle.std.specs.Prelude.{◌+◌, ◌*◌, ◌-◌, ◌%◌}
+use Rattle.machine.specs.All.{ℕ, zero, suc, Bool, true, false, cond, List, ltb, leb, eqb, get_or, set, max_blocks}
 use Rattle.layout.specs.Layout as Layout
 use Rattle.rows_laws.specs.All.{next_field, wels, rel, head, tail, links, row_count, load, read, first, outranks, wake_first, wake_walk, wake_whole, pass_rows, pass_cell}
 use Rattle.servers_laws.specs.Units.{status_of, server_at}

@@ -1,11 +1,11 @@
 -- Every turn keeps the line, and so it holds in the last state of every run of the program.
-use Rattle.machine.specs.All.{ℕ, zero, suc, ◌+◌, ◌*◌, ◌≤◌, ◌<◌, ◌≡◌, refl, sym, ap, subst, subst₂, ◌∙◌, Bool, not, List, [], ◌∷◌, ◌++◌, map, Option, none, some, arith, leb-true, leb-false, length, get_or, drop, replicate, get_or-set_same, get_or-set_other, Transaction, Event, newborn, insert, those, nth, Server, idle_server, server_at, free, Block, seize, advance, terminate, facility, facts, share_server, share_units, share_holder, BlockModel, block_at, State, Logged, set_moving, set_rel, set_serial, set_turns, record_of, log, enters, move_to, fresh, to_fel, ql_of, to_ql, must_wait, wake_ql, wake_wsl, set_use, times_left, arrival, ask_advance, question, part_for, wake_for, ends_one, delay, effect, take_first, take_ready, taking, answer, execute, waits_on, ws_scheme, turn, start_of, start_at, idle, start, run, Each, with_serial, line_up, next_events, leb}
+use Rattle.machine.specs.All.{ℕ, zero, suc, ◌+◌, ◌*◌, ◌≤◌, ◌<◌, ◌≡◌, refl, sym, ap, subst, subst₂, ◌∙◌, Bool, not, List, [], ◌∷◌, ◌++◌, map, Option, none, some, arith, leb-true, leb-false, length, get_or, drop, replicate, get_or-set_same, get_or-set_other, Transaction, Event, newborn, insert, those, nth, Server, idle_server, server_at, free, Block, seize, advance, terminate, facts, share_server, share_units, share_holder, BlockModel, block_at, State, Logged, set_moving, set_rel, set_serial, set_turns, record_of, log, enters, move_to, fresh, to_fel, ql_of, to_ql, must_wait, wake_ql, wake_wsl, set_use, times_left, arrival, ask_advance, question, part_for, wake_for, ends_one, delay, effect, take_first, take_ready, taking, answer, execute, waits_on, ws_scheme, turn, start_of, start_at, idle, start, run, Each, with_serial, line_up, next_events, leb}
 use Rattle.machine.proofs.{Runs.RunLaws.last-state, Basic.Bools.cond_cases, Lists.Cases.ws_scheme-cases, Runs.Kept.taking-kept, Basic.Taking.next_events-moving}
 use Rattle.machine.proofs.Runs.Shape.{Shape, shape_closed, shape-turn, shape-start, ql-at, samples-at, server-length, server-within, facility-capacity}
 use Rattle.slowjob.specs.{jobs, JobLine, ends, comes, leaves}
 use Rattle.slowjob.proofs as our
 use our.Events.{Ready, generates, seizes, releases, neither, coming}
-use our.Line.{used, Nobody, Lists, Serving, Gone, Lined, Line, line-wels, line-wsl, line_Taken}
+use our.Line.{used, Nobody, Lists, Serving, Gone, Lined, Line, line-wels, line-wsl, line_taken}
 use our.Line as Line
 use our.{ClockMove.line-next, Events.AllReady}
 use our.Steps.{drop-step, lined_spent, lined_generated, lined_advanced, lined-seized, lined-queued, lined-released, lined-logged, lined-ended}
@@ -231,9 +231,9 @@ module _ (m : BlockModel) (arrivals services : List ℕ) where
   sound-first (t ∷ l) s is idle h = go (subst AllReady is h.lists.ready).0 refl
     where
       go : {n : ℕ} → Ready n → t.next ≡ n → Sound (set_moving (some t) (set_rel l s))
-      go generates e = record { block = 1; hand = (before-generate, e); line = line_Taken m arrivals services t l s is 1 e refl refl h }
-      go seizes e = record { block = 2; hand = (before-seize, e); line = line_Taken m arrivals services t l s is 2 e refl refl h }
-      go releases e = record { block = 4; hand = (before-release, e); line = line_Taken m arrivals services t l s is 4 e refl refl h }
+      go generates e = record { block = 1; hand = (before-generate, e); line = line_taken m arrivals services t l s is 1 e refl refl h }
+      go seizes e = record { block = 2; hand = (before-seize, e); line = line_taken m arrivals services t l s is 2 e refl refl h }
+      go releases e = record { block = 4; hand = (before-release, e); line = line_taken m arrivals services t l s is 4 e refl refl h }
 
   sound-ready : (l : List Transaction) (s : State) → s.rel ≡ l → s.moving ≡ none → Line m arrivals services 0 s → Sound (take_ready l s)
   unfolding take_ready

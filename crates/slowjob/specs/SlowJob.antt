@@ -2,7 +2,8 @@
 --
 -- Jobs come one after the other, wait for one facility, are served and leave. One service time is raised by d ticks, and nothing else.
 -- Then the k-th end, of each k that both runs come to, is no earlier than before and at most d ticks later.
-use Rattle.machine.specs.All.{ℕ, zero, suc, ◌+◌, ◌-◌, ◌≤◌, ◌<◌, max, ◌≡◌, List, [], ◌∷◌, map, eqb, length, get_or, set, Rules, in_force, those, Block, generate, seize, advance, release, terminate, facts, BlockModel, block_at, Record, trace_bytes_lem, run, accept, validate, records_of, outcome}
+use Rattle.std.specs.Prelude.{◌+◌, ◌-◌, ◌≤◌, ◌<◌, ◌≡◌, ◌∷◌}
+use Rattle.machine.specs.All.{ℕ, zero, suc, max, List, [], map, eqb, length, get_or, set, Rules, in_force, those, Block, generate, seize, advance, release, terminate, facts, BlockModel, block_at, Record, trace_bytes_lem, run, accept, validate, records_of, outcome}
 use Rattle.trace.specs.Whole.{Reads}
 
 -- ---- "the block program of 01's first example"

@@ -1,5 +1,6 @@
 -- The row machine: the start of a run, in scalars, work buffer and tally.
-use Rattle.machine.specs.All.{ℕ, zero, suc, ◌+◌, ◌*◌, min, Bool, cond, List, eqb, get_or, set, max_blocks, max_lists}
+use Rattle.std.specs.Prelude.{◌+◌, ◌*◌}
+use Rattle.machine.specs.All.{ℕ, zero, suc, min, Bool, cond, List, eqb, get_or, set, max_blocks, max_lists}
 use Rattle.rows_laws.specs.All.{row_count, initial}
 use Rattle.constants.specs.declared.model.Model.{Model}
 use Rattle.layout.specs.All.{list_at_lem, list_left, list_counts, most32, block_width}

@@ -1,6 +1,10 @@
 // The start of a run: "clock 0; for each GENERATE in block order, if its sample list has a time, one transaction on the FEL at that
 // time". Nothing is asked.
-ghost use Rattle.machine.specs.All.{◌≡◌, ◌<◌, ◌≤◌, min, max_blocks, max_lists};
+
+#![tactic(auto)]
+
+ghost use Rattle.std.specs.Prelude.{◌≡◌, ◌<◌, ◌≤◌};
+ghost use Rattle.machine.specs.All.{min, max_blocks, max_lists};
 ghost use Rattle.layout.specs.All.{most32};
 ghost use Rattle.rows_laws.specs.All.{Room};
 ghost use Rattle.state.specs.All.{rows_of};

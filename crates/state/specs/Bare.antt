@@ -1,7 +1,8 @@
 -- What a block does apart from its record: the machine's `answer` split into the effect on lists, servers, queues and counts,
 -- and the note of the record, which the engine makes in one place. The law that the two together are `answer` is
 -- proofs/Noted.antt.
-use Rattle.machine.specs.All.{ℕ, zero, suc, ◌+◌, cond, ◌∷◌, none, length, Transaction, nth, set_nth, record_bytes, Block, BlockModel, State, with_serial, set_entries, set_view, set_serial, set_moving, set_end, set_records, set_written, record_of, fresh, doing}
+use Rattle.std.specs.Prelude.{◌+◌, ◌∷◌}
+use Rattle.machine.specs.All.{ℕ, zero, suc, cond, none, length, Transaction, nth, set_nth, record_bytes, Block, BlockModel, State, with_serial, set_entries, set_view, set_serial, set_moving, set_end, set_records, set_written, record_of, fresh, doing}
 
 -- Which record a block writes: outcome 0, outcome 1, or none, for a returner that is put back, for one that goes back and for a turn that
 -- a question stops.

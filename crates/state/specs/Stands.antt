@@ -1,7 +1,8 @@
 -- When scalars, work buffer and tally stand for a state of the machine. Every block kind's law is stated over this relation.
 -- Each part is said of those parts of the state that it reads, so that it is the same for states that differ elsewhere. The trace stands
 -- apart (crate turn_laws, specs/Writes).
-use Rattle.machine.specs.All.{ℕ, suc, ◌+◌, ◌-◌, ◌%◌, ◌<◌, ◌≤◌, ◌≡◌, false, cond, ◌&&◌, List, [], map, Option, none, some, ltb, eqb, length, get_or, max_queues, max_lists, max_blocks, Transaction, Event, Gatherer, Interrupted, bit, nth, those, up_to, with_next, with_stamp, Server, Queue, View, idle_server, empty_queue, State, Logged, of_facility, count}
+use Rattle.std.specs.Prelude.{◌+◌, ◌-◌, ◌%◌, ◌<◌, ◌≤◌, ◌≡◌, ◌&&◌}
+use Rattle.machine.specs.All.{ℕ, suc, false, cond, List, [], map, Option, none, some, ltb, eqb, length, get_or, max_queues, max_lists, max_blocks, Transaction, Event, Gatherer, Interrupted, bit, nth, those, up_to, with_next, with_stamp, Server, Queue, View, idle_server, empty_queue, State, Logged, of_facility, count}
 use Rattle.layout.specs.Layout as Layout
 use Rattle.layout.specs.All.{TimesAt}
 use Rattle.rows_laws.specs.All.{transaction_at, Shows, Loose, free, row_count, wels, wsl, rel, gatherers, interrupted}

@@ -1,5 +1,6 @@
 -- A count of units, waiters or contents over some ticks, as a product of 64 bits.
-use Rattle.machine.specs.All.{ℕ, ◌*◌, cond, ltb}
+use Rattle.std.specs.Prelude.{◌*◌}
+use Rattle.machine.specs.All.{ℕ, cond, ltb}
 
 -- no run counts so many: 2 to the 28
 abbrev pub count_end : ℕ

@@ -1,5 +1,5 @@
 // Ticks times what is counted.
-ghost use Rattle.machine.specs.All.{◌≡◌, ◌≤◌};
+ghost use Rattle.std.specs.Prelude.{◌≡◌, ◌≤◌};
 ghost use Rattle.state.specs.Ticks as Ticks;
 
 // No run counts so many units, waiters or contents: 2 to the 28.

@@ -1,4 +1,4 @@
-ghost use Rattle.machine.specs.All.{◌≡◌};
+ghost use Rattle.std.specs.Prelude.{◌≡◌};
 
 use rows::ROWS;
 

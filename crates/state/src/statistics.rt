@@ -1,6 +1,7 @@
 // Sums over ticks and longest lengths. They are brought up to date before a number changes: since then it has been what it is.
 // Server v is counted as v, queue q as `SERVERS` + q.
-ghost use Rattle.machine.specs.All.{◌≡◌, ◌+◌, ◌<◌, ◌≤◌, max, max_queues};
+ghost use Rattle.std.specs.Prelude.{◌≡◌, ◌+◌, ◌<◌, ◌≤◌};
+ghost use Rattle.machine.specs.All.{max, max_queues};
 ghost use Rattle.layout.specs.All.{server_count, measured_count};
 ghost use Rattle.state.specs.Ticks.{most_ticks};
 ghost use Rattle.state.specs.Statistics.{ticks_since, behind, sum_now, longest_now, see, store_server, update_server, store_queue, update_queue};

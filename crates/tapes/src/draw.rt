@@ -1,5 +1,6 @@
 // One time from a distribution.
-ghost use Rattle.machine.specs.All.{◌≡◌, List, ℕ, ◌+◌, ◌≤◌, ◌<◌};
+ghost use Rattle.std.specs.Prelude.{◌≡◌, ◌+◌, ◌≤◌, ◌<◌};
+ghost use Rattle.machine.specs.All.{List, ℕ};
 ghost use Rattle.floats.specs.Limits.{draw_parts, max_time};
 ghost use Rattle.floats.specs.Value.{Is};
 ghost use Rattle.streams.specs.Stream.{Inside};

@@ -1,5 +1,6 @@
 // What a call gives, checked: doubles, distributions and lists.
-ghost use Rattle.machine.specs.All.{◌≡◌, ℕ, ◌+◌, ◌*◌, ◌≤◌, ◌<◌, length};
+ghost use Rattle.std.specs.Prelude.{◌≡◌, ◌+◌, ◌*◌, ◌≤◌, ◌<◌};
+ghost use Rattle.machine.specs.All.{ℕ, length};
 ghost use Rattle.floats.specs.Answers.{count_of};
 ghost use Rattle.tapes_laws.specs.Limits.{most_times};
 ghost use Rattle.tapes_laws.specs.Given.{time_at, u_at, fixed_at, spread_at, point_at, points_behind, curve_at, source_at, list_at_lem, lists_from};

@@ -1,5 +1,6 @@
 // A tape measured, and written.
-ghost use Rattle.machine.specs.All.{◌≡◌, List, some, ℕ, ◌+◌, ◌*◌, ◌≤◌, length, sets};
+ghost use Rattle.std.specs.Prelude.{◌≡◌, ◌+◌, ◌*◌, ◌≤◌};
+ghost use Rattle.machine.specs.All.{List, some, ℕ, length, sets};
 ghost use Rattle.streams.specs.Stream.{Inside};
 ghost use Rattle.tapes_laws.specs.Limits.{most_lists, most_times};
 ghost use Rattle.tapes_laws.specs.Source.{Source};

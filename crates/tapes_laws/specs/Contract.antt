@@ -1,6 +1,6 @@
 -- What a call of the tape maker promises, for every stream, all lists, doubles and lengths.
-use Rattle.machine.specs.All.{ℕ, ◌/◌, List, some, ◌≡◌, length, in_force, Cursor, parsed, tape_of, beginning}
-use Rattle.std.specs.Prelude.{Float}
+use Rattle.machine.specs.All.{ℕ, List, some, length, in_force, Cursor, parsed, tape_of, beginning}
+use Rattle.std.specs.Prelude.{Float, ◌/◌, ◌≡◌}
 use Rattle.streams.specs.Stream.{beginning as start_state}
 use Rattle.tapes_laws.specs.{declared.Made.Made, Limits.numbers_per_list, Given.Listed, Given.lists_of, Answers.answer}
 use Rattle.tapes_laws.specs.Tape.{made, make_tape, leaves, tape_times}

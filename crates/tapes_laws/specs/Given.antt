@@ -1,8 +1,8 @@
 -- What a call gives: for each list four numbers, and doubles. Kind 0 is a fixed time, 1 a spread, 2 a curve; then the count of
 -- times, the index of the first double, and the number of points, which is 0 but for a curve. A fixed time has one double, a
 -- spread mean and half, a curve u and time of each point. A double past the end counts as no number.
-use Rattle.machine.specs.All.{ℕ, zero, suc, ◌+◌, ◌*◌, ◌-◌, ◌/◌, ◌%◌, Bool, cond, ◌&&◌, List, [], ◌∷◌, Option, none, some, ltb, leb, eqb, length, get_or}
-use Rattle.std.specs.Prelude.{Float}
+use Rattle.machine.specs.All.{ℕ, zero, suc, Bool, cond, List, [], Option, none, some, ltb, leb, eqb, length, get_or}
+use Rattle.std.specs.Prelude.{Float, ◌+◌, ◌*◌, ◌-◌, ◌/◌, ◌%◌, ◌&&◌, ◌∷◌}
 use Rattle.std.specs.Float.{nan}
 use Rattle.floats.specs.Limits.{time_parts, max_time_parts, max_mean_parts, draw_parts}
 use Rattle.floats.specs.Value.{parts_of}

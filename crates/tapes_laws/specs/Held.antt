@@ -1,6 +1,6 @@
 -- Which doubles stand for which source, for contracts between functions of this crate.
-use Rattle.machine.specs.All.{ℕ, ◌+◌, ◌≤◌, ◌<◌, List, [], ◌∷◌, Option, none, some, ◌≡◌, length, get_or, sets}
-use Rattle.std.specs.Prelude.{Float}
+use Rattle.machine.specs.All.{ℕ, List, [], Option, none, some, length, get_or, sets}
+use Rattle.std.specs.Prelude.{Float, ◌+◌, ◌≤◌, ◌<◌, ◌∷◌, ◌≡◌}
 use Rattle.std.specs.Float.{nan}
 use Rattle.floats.specs.{Limits.time_parts, Limits.max_time_parts, Limits.draw_parts, Value.Is, Line.Width, Line.Ends, declared.Segment.Segment}
 use Rattle.tapes_laws.specs.{declared.Distribution.Distribution, declared.Choice.Choice, declared.Choice.TheVariants.Taken, declared.Choice.TheVariants.Refused, declared.Row.Row, declared.Row.TheVariants.Given, declared.Row.TheVariants.Barred, Given.Listed, declared.Made.Made, Answers.answer}

@@ -1,6 +1,7 @@
 -- Document 02, item 4: where the times of a list come from, and what they are, in whole numbers. A time is counted in 64ths,
 -- u in 65,536ths.
-use Rattle.machine.specs.All.{ℕ, zero, suc, ◌-◌, ◌/◌, cond, List, [], ◌∷◌, ltb}
+use Rattle.std.specs.Prelude.{◌-◌, ◌/◌, ◌∷◌}
+use Rattle.machine.specs.All.{ℕ, zero, suc, cond, List, [], ltb}
 use Rattle.floats.specs.Limits.{time_parts}
 use Rattle.floats.specs.Line.{line_over, line_under, spread_over, spread_under}
 use Rattle.streams.specs.Stream.{next}

@@ -1,6 +1,6 @@
 -- Document 02, item 4: the whole tape from a stream and the lists in order, and the answers of the tape maker.
-use Rattle.machine.specs.All.{ℕ, cond, List, [], ◌∷◌, ◌++◌, map, Option, none, some, leb, length, drop, flat, number_bytes}
-use Rattle.std.specs.Prelude.{Float}
+use Rattle.machine.specs.All.{ℕ, cond, List, [], map, Option, none, some, leb, length, drop, flat, number_bytes}
+use Rattle.std.specs.Prelude.{Float, ◌∷◌, ◌++◌}
 use Rattle.streams.specs.{declared.Started.Started, Stream.start_of}
 use Rattle.streams.specs.declared.Started.TheVariants.{State, Refused}
 use Rattle.tapes_laws.specs.{Source.Source, Source.times_of, Source.state_after, Given.Listed, Given.lists_of}

@@ -2,7 +2,7 @@
 // taken; then a number past the 16,384th, which must be as it was.
 #![tactic(auto)]
 
-ghost use Rattle.machine.specs.All.{◌<◌};
+ghost use Rattle.std.specs.Prelude.{◌<◌};
 ghost use Rattle.rows_laws.specs.All.{list_count, priority_end, Room};
 
 use rows::{FEL, HEADS, NUMBER, REL, ROWS, SERIAL, TIME};

@@ -1,7 +1,7 @@
 // Runs the codec: the paper's numbers as bytes and back, and a thousand records there and back.
 #![tactic(auto)]
 
-ghost use Rattle.machine.specs.All.{◌<◌};
+ghost use Rattle.std.specs.Prelude.{◌<◌};
 
 use codec::Read;
 use constants::Model;

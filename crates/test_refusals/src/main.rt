@@ -4,9 +4,8 @@
 // A case is a line: its name, a colon, the bytes of the model in hexadecimal, a slash, those of the tape.
 #![tactic(auto)]
 
-ghost use Rattle.machine.specs.All.{◌<◌, ◌≤◌};
 ghost use Rattle.std.specs.Io.{ReadsAtMost};
-ghost use Rattle.std.specs.Prelude.{length};
+ghost use Rattle.std.specs.Prelude.{length, ◌<◌, ◌≤◌};
 
 use std::io;
 use std::io::Read;

@@ -6,7 +6,7 @@
 // a seven-bit number; then the bytes of model and tape.
 #![tactic(auto)]
 
-ghost use Rattle.machine.specs.All.{◌<◌};
+ghost use Rattle.std.specs.Prelude.{◌<◌};
 ghost use Rattle.std.specs.Io.{ReadsAtMost};
 
 use codec::Read;

@@ -1,5 +1,6 @@
 -- What the answers of this crate say in the paper's terms. The contracts use these.
-use Rattle.machine.specs.All.{ℕ, List, ◌++◌, length, take, drop}
+use Rattle.std.specs.Prelude.{◌++◌}
+use Rattle.machine.specs.All.{ℕ, List, length, take, drop}
 use Rattle.machine.specs.Trace as machine
 use Rattle.trace.specs.{declared.Reading.Reading, declared.Written.Written, declared.Written.TheVariants.Bytes, declared.Written.TheVariants.Refused as Rejected}
 use Rattle.trace.specs.declared.Reading.TheVariants.{Taken, Refused, NoMore}

@@ -1,5 +1,6 @@
 -- A whole trace, record by record.
-use Rattle.machine.specs.All.{ℕ, true, List, [], ◌∷◌, ◌≡◌, in_force, Record, taken, no_more, read_record, in_ranges}
+use Rattle.std.specs.Prelude.{◌∷◌, ◌≡◌}
+use Rattle.machine.specs.All.{ℕ, true, List, [], in_force, Record, taken, no_more, read_record, in_ranges}
 
 -- From this position on the reader takes exactly these records, each at the position that the one before it gave, and then
 -- answers "no more".

@@ -1,5 +1,6 @@
 -- Counting by words: bytes of a slice, the bytes of a word, and marks, from which a count is read.
-use Rattle.machine.specs.All.{ℕ, zero, suc, ◌+◌, ◌*◌, ◌/◌, ◌%◌, ◌^◌, ◌≤◌, ◌<◌, List, [], ◌∷◌, ◌≡◌, take, drop, count_low}
+use Rattle.std.specs.Prelude.{◌+◌, ◌*◌, ◌/◌, ◌%◌, ◌^◌, ◌≤◌, ◌<◌, ◌∷◌, ◌≡◌}
+use Rattle.machine.specs.All.{ℕ, zero, suc, List, [], take, drop, count_low}
 
 -- the n bytes from a position on
 unfoldable pub part : List ℕ → ℕ → ℕ → List ℕ

@@ -5,7 +5,8 @@
 
 mod words;
 
-ghost use Rattle.machine.specs.All.{◌≡◌, true, ℕ, ◌+◌, ◌≤◌, ◌<◌, leb, length, sets, in_force, count_low, record_bytes, trace_field, read_record, in_ranges, write_record};
+ghost use Rattle.std.specs.Prelude.{◌≡◌, ◌+◌, ◌≤◌, ◌<◌};
+ghost use Rattle.machine.specs.All.{true, ℕ, leb, length, sets, in_force, count_low, record_bytes, trace_field, read_record, in_ranges, write_record};
 ghost use Rattle.codec.specs.Answers.{cursor_at, parsed_of};
 ghost use Rattle.trace.specs.Answers.{entry, reading_of, writing_of, after};
 

@@ -1,6 +1,7 @@
 // Counting eight bytes in a word at a time. A word's marks have a 1 for each byte that is not low, in that byte's place. Since
 // 256 leaves 1 modulo 255, the marks of up to 254 bytes, added, leave how many bytes are not low.
-ghost use Rattle.machine.specs.All.{◌≡◌, ◌+◌, ◌≤◌, ◌<◌, length, count_low};
+ghost use Rattle.std.specs.Prelude.{◌≡◌, ◌+◌, ◌≤◌, ◌<◌};
+ghost use Rattle.machine.specs.All.{length, count_low};
 ghost use Rattle.trace.specs.Words.{part, bytes_of, Holds, Marks};
 
 // Low is what is below 80 hexadecimal.

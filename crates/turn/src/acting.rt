@@ -1,5 +1,6 @@
 // The parts of a turn in their order.
-ghost use Rattle.machine.specs.All.{◌≡◌, ℕ, ◌+◌, ◌<◌, ◌≤◌, List, max_blocks, max_facilities};
+ghost use Rattle.std.specs.Prelude.{◌≡◌, ◌+◌, ◌<◌, ◌≤◌};
+ghost use Rattle.machine.specs.All.{ℕ, List, max_blocks, max_facilities};
 ghost use Rattle.rows_laws.specs.All.{Room, row_count, next_field, read};
 ghost use Rattle.state.specs.All.{rows_of};
 ghost use Rattle.turn_laws.specs.Turn.{traced, act, act_moving, clock_asks, next_of, asks, scheme_if, after_taking, turn};

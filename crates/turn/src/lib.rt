@@ -1,4 +1,7 @@
 // One turn: the taking, the block, its record and the WS scheme.
+
+#![tactic(auto)]
+
 mod acting;
 mod note;
 mod staying;

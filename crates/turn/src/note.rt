@@ -1,5 +1,5 @@
 // The record of a block, written behind the others, and the count of its entries or waits.
-ghost use Rattle.machine.specs.All.{◌≡◌};
+ghost use Rattle.std.specs.Prelude.{◌≡◌};
 ghost use Rattle.turn_laws.specs.Note.{Bytes, bytes, append_record, cell_of, count_record, noted, note_record};
 
 use layout::{WAITS, count, set_count};

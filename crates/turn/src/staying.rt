@@ -1,6 +1,6 @@
 // The turns of those who come back to a WAITIF or an ENTER and wait again: they go from REL to the WSL or to a QL, whose length is counted,
 // and nothing else is done.
-ghost use Rattle.machine.specs.All.{◌≡◌, ◌≢◌, ◌-◌, ◌%◌, ◌<◌, ◌≤◌};
+ghost use Rattle.std.specs.Prelude.{◌≡◌, ◌≢◌, ◌-◌, ◌%◌, ◌<◌, ◌≤◌};
 ghost use Rattle.layout.specs.All.{server_count};
 ghost use Rattle.rows_laws.specs.All.{Room, row_count, standing_field, read};
 ghost use Rattle.turn_laws.specs.Staying.{back_to, quiet, all_wait, stayed, server_of, short, crowded, lengthened_by, ends_at, comes_with, WhereLine, tied, Lines};

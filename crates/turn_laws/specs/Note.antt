@@ -1,5 +1,6 @@
 -- The row machine: the record of a block in the trace buffer, and the count of its entries or waits.
-use Rattle.machine.specs.All.{ℕ, ◌+◌, ◌-◌, min, cond, List, ◌++◌, ltb, leb, eqb, length, get_or, set, take, drop, in_force, Writing, written, rejected, write_record}
+use Rattle.std.specs.Prelude.{◌+◌, ◌-◌, ◌++◌}
+use Rattle.machine.specs.All.{ℕ, min, cond, List, ltb, leb, eqb, length, get_or, set, take, drop, in_force, Writing, written, rejected, write_record}
 use Rattle.layout.specs.All.{waits, most64}
 use Rattle.trace.specs.Answers.{entry}
 use Rattle.state.specs.{declared.scalars.Scalars.Scalars, All.put_used}

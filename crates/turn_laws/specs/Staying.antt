@@ -1,6 +1,7 @@
 -- The row machine: the turn of one that comes back and waits again, as all do that come with it: to a WAITIF whose comparison names no
 -- parameter, or to an ENTER.
-use Rattle.machine.specs.All.{ℕ, zero, suc, ◌+◌, ◌*◌, ◌-◌, ◌%◌, ◌<◌, ◌≡◌, Bool, true, false, cond, not, min, List, ltb, eqb, get_or, set, max_blocks}
+use Rattle.std.specs.Prelude.{◌+◌, ◌*◌, ◌-◌, ◌%◌, ◌<◌, ◌≡◌}
+use Rattle.machine.specs.All.{ℕ, zero, suc, Bool, true, false, cond, not, min, List, ltb, eqb, get_or, set, max_blocks}
 use Rattle.layout.specs.Layout as Layout
 use Rattle.rows_laws.specs.All.{standing_field, next_field, serial_field, rel, wsl, head, tail, link, links, row_count, load, store, read, outranks, first, end_at, take_first, put, line_up}
 use Rattle.state.specs.All.{behind, update_server}

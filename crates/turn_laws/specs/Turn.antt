@@ -1,5 +1,6 @@
 -- The row machine: a whole turn over scalars, work buffer, tally and trace buffer.
-use Rattle.machine.specs.All.{ℕ, ◌+◌, ◌*◌, ◌-◌, Bool, true, false, cond, not, List, ltb, eqb, get_or, max_blocks}
+use Rattle.std.specs.Prelude.{◌+◌, ◌*◌, ◌-◌}
+use Rattle.machine.specs.All.{ℕ, Bool, true, false, cond, not, List, ltb, eqb, get_or, max_blocks}
 use Rattle.constants.specs.declared.model.Model.{Model}
 use Rattle.layout.specs.Layout as Layout
 use Rattle.rows_laws.specs.All.{number_field, next_field, row_count, read}

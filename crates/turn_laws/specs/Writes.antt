@@ -1,5 +1,6 @@
 -- When the trace buffer stands for the records of a state of the machine.
-use Rattle.machine.specs.All.{ℕ, ◌≡◌, List, ◌++◌, length, drop, trace_bytes_lem, State, records_of}
+use Rattle.std.specs.Prelude.{◌≡◌, ◌++◌}
+use Rattle.machine.specs.All.{ℕ, List, length, drop, trace_bytes_lem, State, records_of}
 
 -- `before` is what stood in the trace buffer at the start
 pub record Writes (before trace : List ℕ) (s : State) : Type 0 where

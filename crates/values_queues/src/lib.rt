@@ -1,4 +1,7 @@
 // Blocks that decide or count and nothing more: WAITIF and IF on a comparison, GOTO, LET, ARRIVE, DEPART; and the WS scheme.
+
+#![tactic(auto)]
+
 mod comparison;
 mod jumps;
 mod queues;

@@ -1,5 +1,6 @@
 // Blocks that count: ARRIVE and DEPART, on the content of a queue in the tally.
-ghost use Rattle.machine.specs.All.{◌≡◌, ◌+◌, ◌<◌, ◌≤◌, max_queues};
+ghost use Rattle.std.specs.Prelude.{◌≡◌, ◌+◌, ◌<◌, ◌≤◌};
+ghost use Rattle.machine.specs.All.{max_queues};
 ghost use Rattle.layout.specs.All.{program_size};
 ghost use Rattle.rows_laws.specs.All.{Room, row_count};
 ghost use Rattle.state.specs.All.{rows_of};

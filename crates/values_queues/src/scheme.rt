@@ -1,5 +1,6 @@
 // The WS scheme: "every WSL member whose comparison no longer holds goes to REL".
-ghost use Rattle.machine.specs.All.{◌≡◌, ◌+◌, ◌*◌, ◌<◌, ◌≤◌, max_blocks};
+ghost use Rattle.std.specs.Prelude.{◌≡◌, ◌+◌, ◌*◌, ◌<◌, ◌≤◌};
+ghost use Rattle.machine.specs.All.{max_blocks};
 ghost use Rattle.layout.specs.All.{block_width, most32};
 ghost use Rattle.rows_laws.specs.All.{Room, row_count, wsl, pass_rows, pass_cell};
 ghost use Rattle.values_queues_laws.specs.Scheme.{block_of, leaves_by_lem, ws_scheme};

@@ -1,6 +1,7 @@
 // A side of a comparison, for those that wait on it: one that names no parameter is worth the same to all, and is evaluated once
 // for those that stand at one WAITIF.
-ghost use Rattle.machine.specs.All.{◌≡◌, ◌+◌, ◌<◌, get_or};
+ghost use Rattle.std.specs.Prelude.{◌≡◌, ◌+◌, ◌<◌};
+ghost use Rattle.machine.specs.All.{get_or};
 ghost use Rattle.layout.specs.All.{program_size, tables_size};
 ghost use Rattle.rows_laws.specs.All.{Room, row_count};
 ghost use Rattle.evaluation.specs.Evaluation.{term_at};

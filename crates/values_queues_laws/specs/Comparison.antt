@@ -1,5 +1,6 @@
 -- The row machine: blocks with terms, of the block whose numbers begin at `at` of the tables.
-use Rattle.machine.specs.All.{ℕ, ◌+◌, Bool, cond, List, [], ◌∷◌, ltb, get_or, low32}
+use Rattle.std.specs.Prelude.{◌+◌, ◌∷◌}
+use Rattle.machine.specs.All.{ℕ, Bool, cond, List, [], ltb, get_or, low32}
 use Rattle.rows_laws.specs.All.{parameter_field, read, write}
 use Rattle.evaluation.specs.Evaluation.{term_at, compare_at}
 use Rattle.state.specs.declared.scalars.Scalars.{Scalars}

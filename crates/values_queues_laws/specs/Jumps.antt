@@ -1,5 +1,6 @@
 -- The row machine: GOTO.
-use Rattle.machine.specs.All.{ℕ, ◌+◌, List, get_or}
+use Rattle.std.specs.Prelude.{◌+◌}
+use Rattle.machine.specs.All.{ℕ, List, get_or}
 use Rattle.state.specs.declared.scalars.Scalars.{Scalars}
 use Rattle.moves.specs.Motion.{Moved, go_to}
 

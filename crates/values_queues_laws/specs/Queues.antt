@@ -1,5 +1,6 @@
 -- The row machine: ARRIVE and DEPART.
-use Rattle.machine.specs.All.{ℕ, ◌+◌, ◌-◌, ◌%◌, min, cond, List, eqb, get_or, set, max_queues}
+use Rattle.std.specs.Prelude.{◌+◌, ◌-◌, ◌%◌}
+use Rattle.machine.specs.All.{ℕ, min, cond, List, eqb, get_or, set, max_queues}
 use Rattle.layout.specs.Layout as Layout
 use Rattle.state.specs.{declared.scalars.Scalars.Scalars, All.update_queue, All.Rows, All.rows_of}
 use Rattle.moves.specs.Motion.{go_on_lem, with_tally, stopped}

@@ -1,6 +1,6 @@
 -- The row machine: the WS scheme.
-use Rattle.machine.specs.All.{ℕ, ◌+◌, ◌*◌, ◌-◌, Bool, true, cond, not, List, ltb, eqb, get_or}
-use Rattle.std.specs.Prelude.{ℤ}
+use Rattle.machine.specs.All.{ℕ, Bool, true, cond, not, List, ltb, eqb, get_or}
+use Rattle.std.specs.Prelude.{ℤ, ◌+◌, ◌*◌, ◌-◌}
 use Rattle.layout.specs.Layout as Layout
 use Rattle.rows_laws.specs.All.{head, wsl, next_field, row_count, read, wake_all}
 use Rattle.evaluation.specs.Evaluation.{related_by}

@@ -1,6 +1,6 @@
 -- The row machine: a side of a comparison, for those that wait on it. One that names no parameter is worth the same to all.
-use Rattle.machine.specs.All.{ℕ, ◌+◌, ◌≡◌, Bool, true, false, cond, not, List, ltb, eqb, get_or, replicate, signed}
-use Rattle.std.specs.Prelude.{ℤ}
+use Rattle.machine.specs.All.{ℕ, Bool, true, false, cond, not, List, ltb, eqb, get_or, replicate, signed}
+use Rattle.std.specs.Prelude.{ℤ, ◌+◌, ◌≡◌}
 use Rattle.layout.specs.Layout as Layout
 use Rattle.evaluation.specs.Evaluation.{term_at}
 use Rattle.values_queues_laws.specs.Comparison.{parameters_at}

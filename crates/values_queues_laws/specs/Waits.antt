@@ -1,5 +1,6 @@
 -- The row machine: a WAITIF on a comparison, of the block whose numbers begin at `at` of the tables.
-use Rattle.machine.specs.All.{ℕ, ◌+◌, Bool, false, cond, List, get_or}
+use Rattle.std.specs.Prelude.{◌+◌}
+use Rattle.machine.specs.All.{ℕ, Bool, false, cond, List, get_or}
 use Rattle.rows_laws.specs.All.{wsl}
 use Rattle.evaluation.specs.Evaluation.{related_by, compare_at}
 use Rattle.state.specs.declared.scalars.Scalars.{Scalars}

@@ -1,5 +1,6 @@
 -- The things that terms name, marked one by one in a list that has a cell for each: of the tables' numbers, as the code does it.
-use Rattle.machine.specs.All.{ℕ, zero, suc, ◌+◌, ◌%◌, cond, List, ltb, eqb, length, get_or, set}
+use Rattle.std.specs.Prelude.{◌+◌, ◌%◌}
+use Rattle.machine.specs.All.{ℕ, zero, suc, cond, List, ltb, eqb, length, get_or, set}
 
 -- ---- Cells
 

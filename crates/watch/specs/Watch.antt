@@ -1,5 +1,6 @@
 -- What the WAITIFs on comparisons read, and which values name a parameter, stored behind the other numbers of the tables.
-use Rattle.machine.specs.All.{ℕ, zero, suc, ◌+◌, ◌*◌, ◌%◌, cond, List, eqb, get_or, set, replicate}
+use Rattle.std.specs.Prelude.{◌+◌, ◌*◌, ◌%◌}
+use Rattle.machine.specs.All.{ℕ, zero, suc, cond, List, eqb, get_or, set, replicate}
 use Rattle.layout.specs.Layout as Layout
 use Rattle.watch.specs.Walk.{queue_marks, server_marks, value_marks, clock_mark, own_mark, marks_size, terms_from, term_from}
 

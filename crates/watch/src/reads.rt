@@ -1,5 +1,6 @@
 // What the WAITIFs on comparisons read, and which values name a parameter.
-ghost use Rattle.machine.specs.All.{◌≡◌, ◌<◌, ◌≤◌, max_blocks, max_values};
+ghost use Rattle.std.specs.Prelude.{◌≡◌, ◌<◌, ◌≤◌};
+ghost use Rattle.machine.specs.All.{max_blocks, max_values};
 ghost use Rattle.watch.specs.Watch.{reach_value, reach, wait_marks, waits_marks, own_of, changed_cell, asked_of, own_stored, asked_stored, watched};
 
 use crate::walk::{CLOCK, MARKS, OWN, QUEUES, SERVERS, VALUES, store, terms};

@@ -1,5 +1,6 @@
 // The things that terms name, marked one by one. Sums and terms call each other: bracket depth and remaining terms fall.
-ghost use Rattle.machine.specs.All.{◌≡◌, ◌≤◌, set};
+ghost use Rattle.std.specs.Prelude.{◌≡◌, ◌≤◌};
+ghost use Rattle.machine.specs.All.{set};
 ghost use Rattle.watch.specs.Walk.{cell_of, walked, terms_from, term_from};
 
 use layout::{TERM_WIDTH, number};

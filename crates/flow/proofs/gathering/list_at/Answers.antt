@@ -6,6 +6,6 @@ use Rattle.flow.proofs.gathering.list_at.Goals as goal
 pub returns : goal.returns
 unfolding list_at_lem
 returns c = record {
-      list = rw (← c.read.ensures, ← c.less32-block.ensures) refl;
-      there = omega arith;
-    }
+  list = rw (← c.read.ensures, ← c.less32-block.ensures) refl;
+  there = omega arith;
+}

@@ -1,0 +1,14 @@
+-- `interrupt_on` meets its contract: the steps in order.
+use Rattle.preempt_laws.specs.Preempting.{interrupt_on}
+use Rattle.preempt.proofs.interrupt_on.Goals as goal
+
+pub returns : goal.returns
+unfolding interrupt_on
+returns c =
+    rw (
+      ← c.time.ensures,
+      ← c.less64-left.ensures,
+      c.put.ensures,
+      c.set_time.ensures,
+      c.cancel.ensures,
+    )
