@@ -1,0 +1,22 @@
+-- `run` meets its contract: a refused run touches nothing; an accepted one is the machine's. Assumes nothing.
+use Rattle.engine_laws.proofs.Running.{run-refused, fits, run-finished}
+use Rattle.machine.specs.All.{rules}
+use Rattle.engine.proofs.run.Goals as goal
+
+pub accepted-requires : goal.accepted-requires
+accepted-requires c =
+    let with = c.args in
+    let call = c.decode-decoded in
+    fits with.model.now with.tape.now with.budget with.work.now with.trace.now with.report.now
+    call.last.1.1.1.1.0
+    call.last.1.1.1.1.1.0 call.result call.ensures _ c.in-Model.is
+
+pub returns-in-Refused : goal.returns-in-Refused
+returns-in-Refused c =
+    run-refused _ _ _ _ _ _ _ _ _ c.decode-decoded.ensures _ _ c.in-Refused.is c.refused.ensures
+
+pub returns-in-Model : goal.returns-in-Model
+returns-in-Model c =
+    run-finished _ _ _ _ _ _ _ _ _ c.decode-decoded.ensures _
+    c.in-Model.is _ _ _ _
+    c.accepted.ensures
