@@ -3,7 +3,6 @@ use Rattle.machine.specs.All.{ℕ, ◌≡◌, refl, sym, ap₂, subst, ◌∙◌
 use Rattle.machine.specs.Limits as Limits
 use Rattle.constants.specs.declared.model.Model.{Model}
 use Rattle.machine.proofs.Decoding.ProperFrom.{proper-from}
-use Rattle.layout.specs.Layout as Layout
 use Rattle.layout.specs.All.{header_of, Represents}
 use Rattle.evaluation.proofs.NestedFrom.{nested-from}
 use Rattle.decode.specs.{declared.Decoded.Decoded as Answer, Decodes.Decodes}

@@ -4,7 +4,6 @@ use Rattle.machine.proofs.Decoding.ProperFrom.{proper-from}
 use Rattle.joined.specs.Join.{join_models, join_tapes, joinable}
 use Rattle.join_laws.specs.{stored_model, model_bytes, joined, judged, fitted, joined_pair, join, JoinAccepted}
 use Rattle.join_laws.specs.Joining.{Joining}
-use Rattle.join_laws.specs.Joining as Joining
 use Rattle.join_laws.proofs.{Carrying.Passed, Decoded.Decoded, Decoded.decoded, Joint.model-read, Formed.well-formed, Formed.joined-formed, EndToEnd.tapes-read}
 use Rattle.joined.proofs.Joining.ProperJoined.{fits}
 

@@ -1,6 +1,5 @@
 -- A joined model is at most 8,632 numbers, so it fits the room that is kept for it; and there its bytes stand at the front.
 use Rattle.machine.specs.All.{ℕ, zero, suc, ◌+◌, ◌*◌, ◌-◌, ◌≤◌, ◌<◌, zero-add, arith, ◌≡◌, refl, sym, ap, ap₂, ◌∙◌, List, [], ◌∷◌, ◌++◌, map, append_assoc, append-nil, length, get_or, take, drop, length-append, length-drop, take-append-drop, sets, length-sets, sets-eq, take-append_seam, flat, number_bytes, Term, constant, minus_constant, parameter, clock_term, entries_of, content_of, units_in_use, units_free, facility_in_use, value, comparison, bracket, Sum, nothing, plus, minus, BlockModel, subst, Each}
-use Rattle.machine.specs.Limits as Limits
 use Rattle.layout.specs.Layout as Layout
 use Rattle.layout.specs.All.{term_numbers, signed_terms, sum_numbers, At, header_of}
 use Rattle.codec.specs.Writing.{Written, written, put}

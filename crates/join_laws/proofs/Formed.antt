@@ -118,7 +118,7 @@ unfolding joined
 joined-both waits [] l h g = joined-more l 0 waits (omega arith) g
 joined-both waits (b ∷ k) l h g =
     and_intro (leb (facts b).back waits) _ (and_left (leb (facts b).back waits) _ h)
-    (joined-both _ k l (and_right (leb (facts b).back waits) _ h) g)
+    (joined-both (cond (not (eqb (facts b).wel 0) && eqb (facts b).back 0) (suc waits) 0) k l (and_right (leb (facts b).back waits) _ h) g)
 
 -- ---- Blocks named in values
 

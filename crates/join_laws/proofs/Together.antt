@@ -4,7 +4,7 @@ use Rattle.machine.specs.Limits as Limits
 use Rattle.parse_values.specs.Filled.{rows_field}
 use Rattle.parse_values.proofs.Filled.{times-rows, values-rows}
 use Rattle.join_laws.proofs as our
-use our.Carrying.{Reads-then, reads-give, reads-number, Anywhere, anywhere}
+use our.Carrying.{reads_then, reads-give, reads-number, Anywhere, anywhere}
 use our.Decoded.{Between}
 
 -- ---- One after the other
@@ -13,7 +13,7 @@ use our.Decoded.{Between}
 pub any-then : {A B : Type 0} {q : List ℕ → Parser A} (k : List ℕ → A → Parser B) {l l' : List ℕ} {a : A} {b : B} → Anywhere q l a
     → Anywhere (λ s. k s a) l' b
     → Anywhere (λ s. q s >>= k s) (l ++ l') b
-any-then k h g c c' = Reads-then k (h c c) (g c c')
+any-then k h g c c' = reads_then k (h c c) (g c c')
 
 pub any-give : {B : Type 0} {b : B} → Anywhere (λ s. give b) [] b
 any-give c c' = anywhere (reads-give {t = false} {c = c}) c c'

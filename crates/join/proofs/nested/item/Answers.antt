@@ -1,0 +1,11 @@
+-- `join::nested::item` meets its contract.
+use Rattle.join_laws.proofs.RowSteps.{item-whole}
+use Rattle.join.proofs.nested.item.Goals as goal
+
+pub returns : goal.returns
+returns c =
+    item-whole _ _ _ _ _ _ _ _ _ _
+    c.sign-a.ensures
+    c.number-tag.ensures
+    c.emit-b.ensures c.number.ensures
+    c.emit.ensures
