@@ -1,7 +1,6 @@
 // The first bytes of a file.
-ghost use Rattle.io.specs.Counts.{IsPrefixLen};
 ghost use Rattle.std.specs.Prelude.{◌≡◌, ◌≤◌};
-ghost use Rattle.machine.specs.All.{ℕ, length};
+ghost use Rattle.machine.specs.All.{ℕ, length, take};
 
 use std::io::Read;
 use std::rt::Files;
@@ -34,7 +33,7 @@ fn read_some(rt: &impl Eprint, file: &mut impl Read, name: &str, rest: &mut [u8]
 
 // Reads until the buffer is full or the file ends.
 fn read_all(rt: &impl Eprint, file: &mut impl Read, name: &str, buffer: &mut [u8]) -> File
-    ensures { (n : ℕ) → result ≡ File.Read n → IsPrefixLen n buffer.new }
+    ensures { (n : ℕ) → result ≡ File.Read n → (n ≤ length buffer.new) × (n ≡ length (take n buffer.new)) }
 {
     let mut done = 0;
     while done < buffer.len() {
@@ -53,7 +52,7 @@ fn read_all(rt: &impl Eprint, file: &mut impl Read, name: &str, buffer: &mut [u8
 
 // Reads the first bytes of a file, as many as the buffer has room for.
 pub fn read_file<R: Files + Eprint>(rt: &R, name: &str, buffer: &mut [u8]) -> File
-    ensures { (n : ℕ) → result ≡ File.Read n → IsPrefixLen n buffer.new }
+    ensures { (n : ℕ) → result ≡ File.Read n → (n ≤ length buffer.new) × (n ≡ length (take n buffer.new)) }
 {
     match fs::open(rt, name) {
         Err(error) => {

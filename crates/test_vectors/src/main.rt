@@ -61,10 +61,8 @@ fn mixed(sum: u64, b: u8) -> u64
 
 fn checksum(bytes: &[u8]) -> u64 {
     let mut sum = 0;
-    let mut i = 0;
-    while i < bytes.len() {
-        sum = mixed(sum, bytes[i]);
-        i += 1;
+    for b in bytes {
+        sum = mixed(sum, *b);
     }
     sum
 }
