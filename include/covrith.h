@@ -1,7 +1,7 @@
 /* Covrith: one run of a block model on a tape, the records of its trace, traces by column, streams of random
  * numbers, tapes from distributions, and two models joined to one.
  *
- * Link target/staticlib/libcovrith.a, which `rt staticlib covrith` writes (x86-64 Linux), or, after `make install`, what
+ * Link target/staticlib/libcovrith.a, which `tools/staticlib` writes (x86-64 Linux), or, after `make install`, what
  * `pkg-config --cflags --libs covrith` names.
  *
  * For every function:

@@ -10,20 +10,20 @@ from documents import MANUAL, READING, WORDS, check, number, prose, root, says, 
 def check_limits_told(values, ends, refusals):
     """limits that the pages mention, and what the programs are lent"""
     docs = root / "docs"
-    clock, time, bits = values["inForce.maxClock"], values["inForce.maxTime"], values["maxConstant"]
-    stream, records, parameters = values["streams.lastStream"], values["columns.maxRecords"], values["parameterCount"]
+    clock, time, bits = values["in_force.max_clock"], values["in_force.max_time"], values["max_constant"]
+    stream, records, parameters = values["streams.last_stream"], values["columns.max_records"], values["parameter_count"]
     says(root / "README.md", f"Clocks go up to {clock:,} and times to {time:,}")
-    parts, draws = values["floats.timeParts"], values["floats.drawParts"]
+    parts, draws = values["floats.time_parts"], values["floats.draw_parts"]
     says(
         docs / "TEXT.md",
         f"whole ticks from 0 to {time:,}",
         f"`p1` to `p{parameters}`",
         f"the clock itself below {bits + 1:,}",
-        f"(0 to {values['tapes.mostTimes']:,})",
+        f"(0 to {values['tapes.most_times']:,})",
         f"from a stream of its own, 1 to {stream}",
-        f"MEAN at most {values['floats.maxMean']:,} |",
-        f"{values['tapes.fewestPoints']} to {values['tapes.mostPoints']} points",
-        f"multiples of 1/{parts} ({1 / parts}) from 0 to {values['floats.maxTime']:,}; u may be any decimal and is rounded to {draws:,}ths",
+        f"MEAN at most {values['floats.max_mean']:,} |",
+        f"{values['tapes.fewest_points']} to {values['tapes.most_points']} points",
+        f"multiples of 1/{parts} ({1 / parts}) from 0 to {values['floats.max_time']:,}; u may be any decimal and is rounded to {draws:,}ths",
     )
     plain = dict(re.findall(r"const PLAIN_(\w+): \w+ = ([\d_]+);", (root / "command/src/commands/run.rs").read_text()))
     budget, room, file = (int(plain[name]) for name in ("BUDGET", "ROOM", "FILE"))
@@ -31,7 +31,7 @@ def check_limits_told(values, ends, refusals):
     before, stops = ([end for end in ends.values() if (end > 20) == stopped] for stopped in (False, True))
     says(
         docs / "COMMAND.md",
-        f"the budget is {values['maxTurns']:,} turns and the room {values['maxTurns'] * values['recordRoom']:,}",
+        f"the budget is {values['max_turns']:,} turns and the room {values['max_turns'] * values['record_room']:,}",
         f"`--stream N`, 0 to {stream}",
         f"{budget:,} turns, {room:,} bytes of trace, and of model and tape the first {file:,} bytes each",
         f"Clocks go up to {clock:,} ticks",
@@ -43,7 +43,7 @@ def check_limits_told(values, ends, refusals):
     says(
         docs / "COLUMNS.md",
         f"one number, 0 to {records:,}",
-        f"at most {WORDS[values['maxNumberBytes']]} bytes each; clocks go up to {clock:,}",
+        f"at most {WORDS[values['max_number_bytes']]} bytes each; clocks go up to {clock:,}",
         f"with at most {records:,} records",
         f"or {refusals['NOT_COLUMNS']} (not a trace that is taken, not the columns of one), or then {refusals['COLUMNS_ROOM']} (the output needs",
         f"{refusals['NOT_COLUMNS']} whatever was lent, {refusals['COLUMNS_ROOM']} only after it",
@@ -51,18 +51,18 @@ def check_limits_told(values, ends, refusals):
     says(docs / "PYTHON.md", f"random numbers from 1 to {values['streams.modulus'] - 1:,} of stream 0 to {stream}", f"with times to {time:,}")
     says(MANUAL, f"one of {WORDS[parameters]} numbers that a transaction carries, p1 to p{parameters}")
     says(MANUAL, f"from {bits + 1:,} on it turns; a difference of two clock terms is still right over {bits:,} ticks")
-    says(root / "models/port-year/README.md", f"whose own times end at {values['floats.maxTime']:,}", f"end the run with {ends['CLOCK_LIMIT']}")
-    says(READING, f"end 4 when fewer than {values['recordRoom']} bytes are left")
+    says(root / "models/port-year/README.md", f"whose own times end at {values['floats.max_time']:,}", f"end the run with {ends['CLOCK_LIMIT']}")
+    says(READING, f"end 4 when fewer than {values['record_room']} bytes are left")
     # the questions before a turn, in the order of the definition
-    asked = (root / "crates/machine/specs/Run.antt").read_text().split("endBefore budget room s =\n")[1].split("\n\n")[0]
+    asked = (root / "crates/machine/specs/Run.antt").read_text().split("end_before_lem budget room s =\n")[1].split("\n\n")[0]
     asked = re.findall(r"^    \(cond .* (\d+)$", asked, re.M)
     told = re.search(r"May there be a turn\? In this order: (.*)", MANUAL.read_text())[1]
     check(re.findall(r"end (\d+)", told) == asked, f"docs/MANUAL.md: before a turn {told}; Run.antt has {asked}")
     first, second, high, low, whole = re.search(r"`([0-9A-F]{2}) ([0-9A-F]{2})` is (\d+) × 128 \+ (\d+) = (\d+)", MANUAL.read_text()).groups()
     check([int(first, 16) - 128, int(second, 16)] == [int(high), int(low)] and int(high) * 128 + int(low) == int(whole), "docs/MANUAL.md: from bytes to the number")
     layout = (root / "crates/rows_laws/specs/Layout.antt").read_text()
-    rows, fields, lists = (int(re.search(rf"^{name} = (\d+)$", layout, re.M)[1]) for name in ("rowCount", "fieldCount", "listCount"))
-    servers = values["maxFacilities"] + values["maxStorages"]
+    rows, fields, lists = (int(re.search(rf"^{name} = (\d+)$", layout, re.M)[1]) for name in ("row_count", "field_count", "list_count"))
+    servers = values["max_facilities"] + values["max_storages"]
     says(
         docs / "ARCHITECTURE.md",
         f"(none of {fields} is spare)",
@@ -81,7 +81,7 @@ def check_grouped(values):
     """every figure of more than three digits is a limit of the definitions or beside one, or its section says that it was measured"""
     known = {int(n) for file in root.glob("crates/*/specs/*.antt") for n in re.findall(r"^\w+ = (\d+)$", file.read_text(), re.M)}
     known |= {n + 1 for n in known} | {n - 1 for n in known}
-    known |= {values["maxTurns"] * values["recordRoom"], values["floats.maxMean"]}
+    known |= {values["max_turns"] * values["record_room"], values["floats.max_mean"]}
     known |= {int(n.replace("_", "")) for n in re.findall(r"\b\d+_[\d_]+", (root / "studies/check").read_text())}
     known |= {int(n) for n in re.findall(r"= (\d+);", (root / "crates/machine/specs/Rules.antt").read_text())}
     known |= {3_600}  # seconds of an hour

@@ -1,4 +1,4 @@
-//! Links libcovrith.a, which `rt staticlib covrith` writes to target/staticlib; COVRITH_LIB names another folder.
+//! Links libcovrith.a, which `tools/staticlib` writes to target/staticlib; COVRITH_LIB names another folder.
 
 use std::path::PathBuf;
 
@@ -11,7 +11,7 @@ fn main() {
     let archive = folder.join("libcovrith.a");
     if !archive.exists() {
         panic!(
-            "{} is not there: run `rt staticlib covrith`",
+            "{} is not there: run `tools/staticlib`",
             archive.display()
         );
     }
