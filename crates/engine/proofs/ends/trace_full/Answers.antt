@@ -1,13 +1,12 @@
 -- `trace_full` meets its contract, without a sum that may not fit. Assumes nothing.
 use Rattle.machine.specs.All.{ℕ, ◌-◌, ◌+◌, ◌≤◌, ◌<◌, ◌≡◌, refl, sym, ◌∙◌, Bool, true, false, arith, ltb, lt-ltb, le-ltb, ltb-true, ltb-false, record_room}
 use Rattle.engine_laws.specs.Ends.{full_rows}
-use Rattle.engine.proofs.ends.trace_full as f
+use Rattle.engine.proofs.ends.trace_full.Goals as goal
 
 short : (used room : ℕ) → room < record_room → true ≡ full_rows used room
 unfolding full_rows
 short used room h = sym (lt-ltb room (used + record_room) (omega arith))
 
--- a difference for a sum
 aside : (used room : ℕ) → record_room ≤ room → ltb (room - record_room) used ≡ full_rows used room
 unfolding full_rows
 aside used room h = go (ltb (room - record_room) used) refl
@@ -16,5 +15,8 @@ aside used room h = go (ltb (room - record_room) used) refl
     go true e = e ∙ sym (lt-ltb room (used + record_room) (omega (arith, ltb-true (room - record_room) used e)))
     go false e = e ∙ sym (le-ltb room (used + record_room) (omega (arith, ltb-false (room - record_room) used e)))
 
-pub trace-full-spec : {M : Type 1} → f.Statement.statement M
-trace-full-spec = f.Tie.close (f.Tie.spec (λ c. short _ _ c.if1.taken) (λ c. aside _ _ c.if1.left))
+pub returns-then-room-lt-RECORD_ROOM : goal.returns-then-room-lt-RECORD_ROOM
+returns-then-room-lt-RECORD_ROOM c = short _ _ c.if-room-lt-RECORD_ROOM.true
+
+pub returns : goal.returns
+returns c = aside _ _ c.if-room-lt-RECORD_ROOM.false
