@@ -7,9 +7,10 @@ pub accepted-requires : goal.accepted-requires
 accepted-requires c =
     let with = c.args in
     let call = c.decode-decoded in
-    fits with.model.now with.tape.now with.budget with.work.now with.trace.now with.report.now
-    call.last.1.1.1.1.0
-    call.last.1.1.1.1.1.0 call.result call.ensures _ c.in-Model.is
+    let h =
+    fits with.model.now with.tape.now with.budget with.work.now with.trace.now with.report.now call.new.tables call.new.lists call.result
+    call.ensures _ c.in-Model.is in
+    record { facilities_le_max_facilities = h.0; blocks_le_max_blocks = h.1.0; room = h.1.1 }
 
 pub returns-in-Refused : goal.returns-in-Refused
 returns-in-Refused c =

@@ -7,9 +7,9 @@ pub turns-requires : goal.turns-requires
 turns-requires c =
     let p = c.requires in
     record {
-      facilities_le_max_facilities = p.0;
-      blocks_le_max_blocks = p.1.0;
-      room = omega (arith, p.1.1, c.begin-x.kept.1.1.1.1.0);
+      facilities_le_max_facilities = p.facilities_le_max_facilities;
+      blocks_le_max_blocks = p.blocks_le_max_blocks;
+      room = omega (arith, p.room);
     }
 
 pub returns : goal.returns

@@ -21,11 +21,12 @@ returns-then-x-ne-NOBODY c =
 
 pub returns-then-quiet : goal.returns-then-quiet
 returns-then-quiet c =
-    let call = c.queue_all in (
-      λ tape trace. call.ensures.0 _ tape trace c.if-x-ne-NOBODY.false c.if-x-ne-NO_RECORD.false
-          (sym c.quiet.ensures ∙ c.if-quiet.true),
-      call.ensures.1,
-    )
+    let call = c.queue_all in record {
+      by_index = λ tape trace. call.ensures.where_enter _ tape trace c.if-x-ne-NOBODY.false c.if-x-ne-NO_RECORD.false
+          (sym c.quiet.ensures ∙ c.if-quiet.true);
+      least = call.ensures.least;
+      most = call.ensures.most;
+    }
 
 pub returns-then-not-all_wait : goal.returns-then-not-all_wait
 returns-then-not-all_wait c =
@@ -37,8 +38,9 @@ returns-then-not-all_wait c =
 
 pub returns : goal.returns
 returns c =
-    let call = c.stay_all in (
-      λ tape trace. call.ensures.0 _ _ tape _ trace c.if-x-ne-NOBODY.false c.if-x-ne-NO_RECORD.false
-          (sym c.all_wait.ensures ∙ c.if-not-all_wait.false),
-      call.ensures.1,
-    )
+    let call = c.stay_all in record {
+      by_index = λ tape trace. call.ensures.where_all_wait _ _ tape _ trace c.if-x-ne-NOBODY.false c.if-x-ne-NO_RECORD.false
+          (sym c.all_wait.ensures ∙ c.if-not-all_wait.false);
+      least = call.ensures.least;
+      most = call.ensures.most;
+    }

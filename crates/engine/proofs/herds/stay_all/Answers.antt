@@ -12,7 +12,7 @@ shape_of-work-then-end_before-ne0 c =
 
 pub returns-then-end_before-ne0 : goal.returns-then-end_before-ne0
 returns-then-end_before-ne0 c =
-    amid-done c.loop-rest.invariant
+    let h = amid-done c.loop-rest.invariant in record { where_all_wait = h.0; least = h.1.0; most = h.1.1 }
 
 pub shape_of-work-then-back_to-block : goal.shape_of-work-then-back_to-block
 shape_of-work-then-back_to-block c =
@@ -20,7 +20,7 @@ shape_of-work-then-back_to-block c =
 
 pub returns-then-back_to-block : goal.returns-then-back_to-block
 returns-then-back_to-block c =
-    amid-done c.loop-rest.invariant
+    let h = amid-done c.loop-rest.invariant in record { where_all_wait = h.0; least = h.1.0; most = h.1.1 }
 
 pub overflow_add-y : goal.overflow_add-y
 overflow_add-y c =
@@ -30,11 +30,12 @@ pub loop-rest-preserved : goal.loop-rest-preserved
 loop-rest-preserved c =
     let at = c.loop-rest in
     let call = c.stay in
-    amid-next at.inv (omega arith) (sym c.end_before.ensures ∙ c.if-end_before-ne0.false)
-    (sym c.back_to.ensures ∙ c.if-back_to-block.false) call.ensures (omega (arith, call.kept))
+    amid-next at.invariant (omega arith) (sym c.end_before.ensures ∙ c.if-end_before-ne0.false)
+    (sym c.back_to.ensures ∙ c.if-back_to-block.false) call.ensures (omega arith)
 
 pub shape_of-work : goal.shape_of-work
 shape_of-work c = c.loop-rest.invariant.kept
 
 pub returns : goal.returns
-returns c = amid-done c.loop-rest.invariant
+returns c =
+    let h = amid-done c.loop-rest.invariant in record { where_all_wait = h.0; least = h.1.0; most = h.1.1 }

@@ -28,7 +28,7 @@ returns-then-left-eq0 c =
     let at = c.loop-plain in
     let out = c.loop-left in
     sym (turns-none _ _ _ _ _ _ _ _ _ at.left (omega arith))
-    ∙ turns-joined _ _ _ _ _ _ _ _ _ _ _ out.inv.2 at.inv.0 out.inv.0
+    ∙ turns-joined _ _ _ _ _ _ _ _ _ _ _ out.invariant.2 at.invariant.0 out.invariant.0
 
 pub shape_of-work-then-e-ne0 : goal.shape_of-work-then-e-ne0
 shape_of-work-then-e-ne0 c =
@@ -42,27 +42,27 @@ pub returns-then-e-ne0 : goal.returns-then-e-ne0
 returns-then-e-ne0 c =
     let at = c.loop-plain in
     let out = c.loop-left in
-    let told = c.end_before-e.ensures ∙ ap (end_rows at.work at.y c.args.budget) (at.inv.2 ∙ out.inv.2) in
+    let told = c.end_before-e.ensures ∙ ap (end_rows at.work at.y c.args.budget) (at.invariant.2 ∙ out.invariant.2) in
     sym (turns-off _ _ _ _ _ _ _ _ _ at.left _ (omega arith) told c.if-e-ne0.true)
-    ∙ turns-joined _ _ _ _ _ _ _ _ _ _ _ out.inv.2 at.inv.0 out.inv.0
+    ∙ turns-joined _ _ _ _ _ _ _ _ _ _ _ out.invariant.2 at.invariant.0 out.invariant.0
 
 pub loop-plain-preserved : goal.loop-plain-preserved
 loop-plain-preserved c =
     let at = c.loop-plain in
     let a = c.args in
     let call = c.turn-y in
-    let told = c.end_before-e.ensures ∙ ap (end_rows at.work at.y a.budget) at.inv.2 in (
+    let told = c.end_before-e.ensures ∙ ap (end_rows at.work at.y a.budget) at.invariant.2 in (
       turns-on a.model a.tables.now a.tape.now a.budget _ at.y at.work _ _ at.left _ (omega arith) told
-          c.if-e-ne0.false _ _ call.ensures at.inv.0,
-      omega (arith, call.kept.1.1.1.0, at.inv.1),
-      call.kept.1.1.1.1.1.0 ∙ at.inv.2,
-      omega (arith, at.inv.3),
-      λ e. omega (arith, at.inv.3),
+          c.if-e-ne0.false _ _ call.ensures at.invariant.0,
+      omega (arith, at.invariant.1),
+      omega (arith, at.invariant.2),
+      omega (arith, at.invariant.3),
+      λ e. omega (arith, at.invariant.3),
     )
 
 pub overflow_sub-left-in-loop-left-2 : goal.overflow_sub-left-in-loop-left-2
 overflow_sub-left-in-loop-left-2 c =
-    omega (arith, c.herd-done.ensures.least.1)
+    omega (arith, c.herd-done.ensures.least, c.herd-done.ensures.most)
 
 pub loop-left-smaller : goal.loop-left-smaller
 loop-left-smaller c =
@@ -74,10 +74,10 @@ loop-left-preserved c =
     let out = c.loop-left in
     let a = c.args in
     let herd = c.herd-done in
-    let same = at.inv.2 ∙ out.inv.2 in (
+    let same = at.invariant.2 ∙ out.invariant.2 in (
       onward-on a.model a.tables.now a.tape.now _ a.budget _ at.y at.left _ _ herd.result _ _ _ _ same
-          (herd.ensures.0 a.tape.now _) (turns-joined _ _ _ _ _ _ _ _ _ _ _ out.inv.2 at.inv.0 out.inv.0),
-      omega (arith, herd.kept, at.inv.1, out.inv.1),
+          (herd.ensures.by_index a.tape.now _) (turns-joined _ _ _ _ _ _ _ _ _ _ _ out.invariant.2 at.invariant.0 out.invariant.0),
+      omega (arith, at.invariant.1, out.invariant.1),
       same,
     )
 
@@ -90,4 +90,4 @@ shape_of-trace c = c.loop-left.invariant.2
 pub returns : goal.returns
 returns c =
     let at = c.loop-left in
-    sym (turns-none _ _ _ _ _ _ _ _ _ at.left (omega arith)) ∙ at.inv.0
+    sym (turns-none _ _ _ _ _ _ _ _ _ at.left (omega arith)) ∙ at.invariant.0
