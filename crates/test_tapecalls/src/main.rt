@@ -4,9 +4,13 @@
 use std::io;
 use tapes_laws::Made;
 
+fn print_byte(rt: &impl Print, b: u8) -> io::Result<()> {
+    print!(rt; " {b}")
+}
+
 fn print_bytes(rt: &impl Print, tape: &[u8; 12]) -> io::Result<()> {
     for b in tape {
-        print!(rt; " {b}")?;
+        print_byte(rt, *b)?;
     }
     println!(rt)
 }

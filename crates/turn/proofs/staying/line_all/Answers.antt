@@ -6,39 +6,39 @@ use Rattle.turn.proofs.staying.line_all.Goals as goal
 
 pub returns-then-most-eq0 : goal.returns-then-most-eq0
 returns-then-most-eq0 c = record {
-      lines = λ there. lines_none;
-      few = omega arith;
-    }
+  lines = λ there. lines_none;
+  few = omega arith;
+}
 
 pub returns-then-number-ne1 : goal.returns-then-number-ne1
 returns-then-number-ne1 c = record {
-      lines = λ there. lines_none;
-      few = omega arith;
-    }
+  lines = λ there. lines_none;
+  few = omega arith;
+}
 
 pub returns-then-back_to-block : goal.returns-then-back_to-block
 returns-then-back_to-block c = record {
-      lines = λ there. lines_none;
-      few = omega arith;
-    }
+  lines = λ there. lines_none;
+  few = omega arith;
+}
 
 pub returns-then-k-ge-ROWS : goal.returns-then-k-ge-ROWS
 returns-then-k-ge-ROWS c = record {
-      lines = λ there. lines_none;
-      few = omega arith;
-    }
+  lines = λ there. lines_none;
+  few = omega arith;
+}
 
 pub returns-then-not-ends_at : goal.returns-then-not-ends_at
 returns-then-not-ends_at c = record {
-      lines = λ there. lines_none;
-      few = omega arith;
-    }
+  lines = λ there. lines_none;
+  few = omega arith;
+}
 
 pub returns-then-m-lt-ROWS : goal.returns-then-m-lt-ROWS
 returns-then-m-lt-ROWS c = record {
-      lines = λ there. lines_none;
-      few = omega arith;
-    }
+  lines = λ there. lines_none;
+  few = omega arith;
+}
 
 pub returns : goal.returns
 returns c =
