@@ -7,7 +7,9 @@ root = pathlib.Path(__file__).resolve().parent.parent
 
 MANUAL = root / "docs/MANUAL.md"
 READING = root / "docs/READING.md"
-PAGES = [*sorted(root.glob("*.md")), *sorted(root.glob("docs/**/*.md")), root / "models/README.md", *sorted(root.glob("models/*/README.md"))]
+# notes of the move to today's Rattle name what stood before
+NOTES = {*root.glob("docs/PORT*.md"), *root.glob("docs/port-notes*.md")}
+PAGES = [*sorted(root.glob("*.md")), *sorted({*root.glob("docs/**/*.md")} - NOTES), root / "models/README.md", *sorted(root.glob("models/*/README.md"))]
 
 failures = []
 

@@ -10,10 +10,7 @@ fn main() {
     };
     let archive = folder.join("libcovrith.a");
     if !archive.exists() {
-        panic!(
-            "{} is not there: run `tools/staticlib`",
-            archive.display()
-        );
+        panic!("{} is not there: run `tools/staticlib`", archive.display());
     }
     println!("cargo:rustc-link-search=native={}", folder.display());
     println!("cargo:rustc-link-lib=static=covrith");
