@@ -4,14 +4,14 @@
 #include <stdlib.h>
 #include <string.h>
 #include <time.h>
-void bench_initialise(uint32_t *, size_t);
-uint32_t bench_make(uint32_t *, size_t);
-uint32_t bench_read(const uint32_t *, size_t, uint32_t, uint32_t);
-void bench_write(uint32_t *, size_t, uint32_t, uint32_t, uint32_t);
-void bench_put(uint32_t *, size_t, uint32_t);
-uint32_t bench_take(uint32_t *, size_t);
-void bench_put_later(uint32_t *, size_t, uint32_t);
-uint32_t bench_take_later(uint32_t *, size_t);
+void bench_initialise(uint32_t *);
+uint32_t bench_make(uint32_t *);
+uint32_t bench_read(const uint32_t *, uint32_t, uint32_t);
+void bench_write(uint32_t *, uint32_t, uint32_t, uint32_t);
+void bench_put(uint32_t *, uint32_t);
+uint32_t bench_take(uint32_t *);
+void bench_put_later(uint32_t *, uint32_t);
+uint32_t bench_take_later(uint32_t *);
 uint32_t bench_validate(const uint8_t *, size_t, const uint8_t *, size_t);
 
 enum { ROOM = 16384, TURNS = 2000000, PRIORITY = 1, SERIAL = 7, TIME = 8, TIME_HIGH = 9 };
@@ -32,31 +32,31 @@ static uint32_t draw(void) {
 }
 
 static void set_time(uint32_t k, uint64_t time) {
-    bench_write(w, ROOM, TIME, k, (uint32_t)time);
-    bench_write(w, ROOM, TIME_HIGH, k, (uint32_t)(time >> 32));
+    bench_write(w, TIME, k, (uint32_t)time);
+    bench_write(w, TIME_HIGH, k, (uint32_t)(time >> 32));
 }
 
 static void lists(int later, int living) {
     uint32_t serial = 0;
     uint64_t time = 0;
     memset(w, 0xAB, sizeof w);
-    bench_initialise(w, ROOM);
+    bench_initialise(w);
     for (int i = 0; i < living; i++) {
-        uint32_t k = bench_make(w, ROOM);
-        bench_write(w, ROOM, PRIORITY, k, 0);
-        bench_write(w, ROOM, SERIAL, k, ++serial);
+        uint32_t k = bench_make(w);
+        bench_write(w, PRIORITY, k, 0);
+        bench_write(w, SERIAL, k, ++serial);
         set_time(k, draw());
-        later ? bench_put_later(w, ROOM, k) : bench_put(w, ROOM, k);
+        later ? bench_put_later(w, k) : bench_put(w, k);
     }
     double start = now();
     for (int i = 0; i < TURNS; i++) {
-        uint32_t k = later ? bench_take_later(w, ROOM) : bench_take(w, ROOM);
+        uint32_t k = later ? bench_take_later(w) : bench_take(w);
         if (later) {
-            time = bench_read(w, ROOM, TIME, k) | (uint64_t)bench_read(w, ROOM, TIME_HIGH, k) << 32;
+            time = bench_read(w, TIME, k) | (uint64_t)bench_read(w, TIME_HIGH, k) << 32;
             set_time(k, time + draw());
         }
-        bench_write(w, ROOM, SERIAL, k, ++serial);
-        later ? bench_put_later(w, ROOM, k) : bench_put(w, ROOM, k);
+        bench_write(w, SERIAL, k, ++serial);
+        later ? bench_put_later(w, k) : bench_put(w, k);
     }
     printf("%s, %4d living: %7.1f ns a take and put (clock %llu)\n", later ? "FEL, random times" : "REL, in order    ", living, (now() - start) / TURNS, (unsigned long long)time);
 }

@@ -8,41 +8,38 @@ use layout::{CLOCK_MOVES, count, set_count};
 use rows::cells::time;
 use rows::clock::arrive;
 use rows::lists::{first, take_first};
-use rows::{FEL, REL, ROWS, SERIAL_END};
-use saturating::{plus32, plus64};
-use state::{Scalars, by_fields};
+use rows::{Chain, SERIAL_END, Work};
+use state::{Mover, Scalars, by_fields};
 
 // One clock move more.
 fn count_move(tally: &mut [u64])
     ensures { tally.new ≡ count_move tally.old }
 {
-    let moves = plus64(count(tally, CLOCK_MOVES), 1);
+    let moves = count(tally, CLOCK_MOVES).saturating_add(1);
     set_count(tally, CLOCK_MOVES, moves);
 }
 
 // The clock moves to a time: the move is counted, and all of that time come from the FEL to REL.
-fn move_clock(work: &mut [u32], tally: &mut [u64], x: Scalars, time: u64) -> Scalars
-    requires room { Room work.old }
-    requires serial_lt_serial_end { x.serial < serial_end }
+fn move_clock(work: &mut Work, tally: &mut [u64], x: Scalars, time: u64) -> Scalars
+    requires { x.serial < serial_end }
     ensures { rows_of result work.new tally.new ≡ move_clock work.old tally.old x time }
 {
+    let last = x.serial;
     let mut y = by_fields(x);
     count_move(tally);
-    let serial = arrive(work, time, x.serial);
+    let serial = arrive(work, time, last);
     y.clock = time;
     y.serial = serial;
     y
 }
 
 // A clock move to the first time of the FEL, where it has one.
-fn next_events(work: &mut [u32], tally: &mut [u64], x: Scalars) -> Scalars
-    requires { Room work.old }
+fn next_events(work: &mut Work, tally: &mut [u64], x: Scalars) -> Scalars
     ensures { rows_of result work.new tally.new ≡ next_events work.old tally.old x }
 {
-    let k = first(work, FEL);
-    if k >= ROWS {
+    let Some(k) = first(work, Chain::FEL) else {
         return x;
-    }
+    };
     if x.serial >= SERIAL_END {
         return x;
     }
@@ -51,31 +48,28 @@ fn next_events(work: &mut [u32], tally: &mut [u64], x: Scalars) -> Scalars
 }
 
 // The first of REL moves, where there is one.
-fn take_ready(work: &mut [u32], x: Scalars) -> Scalars
-    requires { Room work.old }
+fn take_ready(work: &mut Work, x: Scalars) -> Scalars
     ensures scalars { result ≡ ready_scalars work.old x }
     ensures rows { work.new ≡ ready_work work.old }
 {
-    let k = take_first(work, REL);
-    if k >= ROWS {
+    let Some(k) = take_first(work, Chain::REL) else {
         return x;
-    }
+    };
     let mut y = by_fields(x);
-    y.moving = k;
+    y.moving = Mover::of(k);
     y
 }
 
 // The taking of a turn, which counts.
-pub fn take(work: &mut [u32], tally: &mut [u64], x: Scalars) -> Scalars
-    requires { Room work.old }
+pub fn take(work: &mut Work, tally: &mut [u64], x: Scalars) -> Scalars
     ensures { rows_of result work.new tally.new ≡ take work.old tally.old x }
 {
     let mut y = x;
-    y.turns = plus32(x.turns, 1);
-    if x.moving < ROWS {
+    y.turns = x.turns.saturating_add(1);
+    if let Some(_) = x.moving.row() {
         return y;
     }
-    if first(work, REL) < ROWS {
+    if let Some(_) = first(work, Chain::REL) {
         return take_ready(work, y);
     }
     let z = next_events(work, tally, y);

@@ -1,7 +1,8 @@
 -- A field, pure: the answer of `read_field` in the paper's terms; a number within the range reads back; what a field takes
 -- is, written again, the same bytes.
 use Rattle.machine.specs.All.{clash, ℕ, suc, ◌+◌, ◌≤◌, arith, Bool, true, false, cond, ◌&&◌, List, ◌++◌, Option, none, some, ◌≡◌, refl, sym, ap, ◌∙◌, leb, length, drop, take-append-drop, drop-append_seam, drop-drop, length-take-le, le-leb, leb-true, max_number_bytes, five_groups, Number, number_bytes, read_number, Cursor, Parsed, parsed, refused, field_of, field_up_to, take}
-use Rattle.codec.specs.{declared.Field.Field, declared.Field.TheVariants.Value, declared.Field.TheVariants.Refused}
+use Rattle.std.specs.Prelude.{Result, Ok, Err}
+use Rattle.constants.specs.{declared.refusals.Refusal.Refusal, Numbers.refusal_number}
 use Rattle.codec.specs.{cursor_at, parsed_of}
 use Rattle.codec.proofs as our
 use our.Groups.{Bytes, bytes_drop}
@@ -9,12 +10,12 @@ use our.Numbers.{number_bytes-length, number_bytes-reads, number_bytes-read, acc
 
 -- ---- The answer
 
-module _ (numbers mentions : ℕ) (r : Field) {p : Parsed ℕ} (e : parsed_of numbers mentions r ≡ p) where
-  pub value-parsed : {v next : ℕ} → r ≡ Value v next → p ≡ parsed v (cursor_at next numbers mentions)
+module _ (numbers mentions : ℕ) (r : Result (ℕ × ℕ) Refusal) {p : Parsed ℕ} (e : parsed_of numbers mentions r ≡ p) where
+  pub value-parsed : {v next : ℕ} → r ≡ Ok (v, next) → p ≡ parsed v (cursor_at next numbers mentions)
   unfolding parsed_of
   value-parsed h = sym e ∙ ap (parsed_of numbers mentions) h
 
-  pub refusal-parsed : {n : ℕ} → r ≡ Refused n → p ≡ refused n
+  pub refusal-parsed : {n : Refusal} → r ≡ Err n → p ≡ refused (refusal_number n)
   unfolding parsed_of
   refusal-parsed h = sym e ∙ ap (parsed_of numbers mentions) h
 

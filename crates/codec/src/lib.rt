@@ -4,11 +4,12 @@
 #![tactic(auto)]
 
 ghost use Rattle.std.specs.Prelude.{◌≡◌, ◌+◌, ◌≤◌, ◌<◌};
+ghost use Rattle.constants.specs.Numbers.{refusal_number, malformed};
 ghost use Rattle.machine.specs.All.{cond, ℕ, leb, length, drop, sets, five_groups, max_number_bytes, max_report_number_bytes, max_report_number, groups, within, read_number, number_bytes, field_up_to};
 ghost use Rattle.codec.specs.Answers.{number_of, read_as, cursor_at, parsed_of};
 ghost use Rattle.codec.specs.Writing.{written, put};
 
-use constants::Model;
+use constants::{Model, Refusal, Text};
 
 // A group has seven bits; the top bit of its byte is worth as much as a group.
 const GROUP: u64 = 128;
@@ -16,103 +17,73 @@ const GROUP: u64 = 128;
 // the first byte of a number that is not in shortest form
 const EMPTY_GROUP: u8 = 128;
 
-// A number at a position: its value and the position after it.
-#[derive(Clone, Copy)]
-pub enum Read {
-    Number(u64, usize),
-    Refused,
-}
-
-// A number in a field's range: its value and the position after it, or the number of the refusal.
-#[derive(Clone, Copy)]
-pub enum Field {
-    Value(u64, usize),
-    Refused(u32),
-}
-
-// A whole number is in size if it is at most `most`.
-fn in_size(value: u64, next: usize, most: u64) -> Read
-    ensures { result ≡ cond (leb value most) (Read.Number value next) Read.Refused }
-{
-    if value <= most {
-        Read::Number(value, next)
-    } else {
-        Read::Refused
-    }
-}
-
-// The groups at a position, at most `limit` of them, a number of at most `most`.
-fn read_groups(s: &[u8], at: usize, limit: usize, most: u64) -> Read
+// The groups at a position, at most `limit` of them, a number of at most `most`: its value and the position after it.
+fn read_groups(s: &[u8], at: usize, limit: usize, most: u64) -> Option<(u64, usize)>
     requires { limit ≤ max_report_number_bytes }
     ensures { result ≡ read_as at (within most (groups limit 0 (drop at s.now))) }
 {
-    let mut left = limit;
     let mut value: u64 = 0;
     let mut next = at;
-    while 0 < left {
-        if s.len() <= next {
-            return Read::Refused;
-        }
-        let b = s[next] as u64;
+    for _ in 0..limit {
+        let b = u64::from(*s.get(next)?);
         next += 1;
         if b < GROUP {
-            return in_size(value * GROUP + b, next, most);
+            value = value * GROUP + b;
+            return (value <= most).then_some((value, next));
         }
         value = value * GROUP + (b - GROUP);
-        left -= 1;
     }
-    Read::Refused
+    None
 }
 
 // The same in shortest form: a number that begins with an empty group is refused.
-fn read_shortest(s: &[u8], at: usize, limit: usize, most: u64) -> Read
+fn read_shortest(s: &[u8], at: usize, limit: usize, most: u64) -> Option<(u64, usize)>
     requires { limit ≤ max_report_number_bytes }
     ensures { result ≡ read_as at (read_number limit most (drop at s.now)) }
 {
-    if s.len() <= at {
-        return Read::Refused;
-    }
-    if s[at] == EMPTY_GROUP {
-        return Read::Refused;
+    if *s.get(at)? == EMPTY_GROUP {
+        return None;
     }
     read_groups(s, at, limit, most)
 }
 
-// A number of model, tape or trace, in size if it is at most `most`.
-pub fn read_number(s: &[u8], at: usize, most: u64) -> Read
+// A number of model, tape or trace, in size if it is at most `most`: its value and the position after it.
+pub fn read_number(s: &[u8], at: usize, most: u64) -> Option<(u64, usize)>
     ensures result_value { number_of at result ≡ read_number max_number_bytes most (drop at s.now) }
-    ensures inside { (v next : ℕ) → result ≡ Read.Number v next → (v ≤ most) × (at < next) × (next ≤ length s.now) }
+    ensures inside { (v next : ℕ) → result ≡ Some (v, next) → (v ≤ most) × (at < next) × (next ≤ length s.now) }
 {
     read_shortest(s, at, Model::NUMBER_BYTES, most)
 }
 
 // A number of the report.
-pub fn read_report_number(s: &[u8], at: usize) -> Read
+pub fn read_report_number(s: &[u8], at: usize) -> Option<(u64, usize)>
     ensures result_value { number_of at result ≡ read_number max_report_number_bytes max_report_number (drop at s.now) }
-    ensures inside { (v next : ℕ) → result ≡ Read.Number v next → (v ≤ max_report_number) × (at < next) × (next ≤ length s.now) }
+    ensures inside { (v next : ℕ) → result ≡ Some (v, next) → (v ≤ max_report_number) × (at < next) × (next ≤ length s.now) }
 {
     read_shortest(s, at, Model::REPORT_NUMBER_BYTES, Model::MAX_REPORT_NUMBER)
 }
 
-// A number from lo to hi. `code` is the refusal of one that is not whole, not shortest or above
-// `most`, and the next number that of one out of range: 3 and 4 for the model, 8 and 9 for the
-// tape, 31 and 32 for the trace.
-pub fn read_field(s: &[u8], at: usize, most: u64, lo: u64, hi: u64, code: u8) -> Field
-    ensures by_index { (numbers mentions : ℕ) → parsed_of numbers mentions result ≡ field_up_to most s.now code lo hi (cursor_at at numbers mentions) }
-    ensures inside { (v next : ℕ) → result ≡ Field.Value v next → (lo ≤ v) × (v ≤ hi) × (at < next) × (next ≤ length s.now) }
+// A number from lo to hi and the position after it, or the refusal: the text's first for a number that is not whole, not
+// shortest or above `most`, its second for one out of range.
+pub fn read_field(
+    s: &[u8],
+    at: usize,
+    most: u64,
+    lo: u64,
+    hi: u64,
+    text: Text,
+) -> Result<(u64, usize), Refusal>
+    ensures by_index { (numbers mentions : ℕ) → parsed_of numbers mentions result
+        ≡ field_up_to most s.now (refusal_number (malformed text)) lo hi (cursor_at at numbers mentions) }
+    ensures inside { (v next : ℕ) → result ≡ Ok (v, next) → (lo ≤ v) × (v ≤ hi) × (at < next) × (next ≤ length s.now) }
 {
-    let malformed = code as u32;
-    let out_of_range = malformed + 1;
-    let Read::Number(v, next) = read_number(s, at, most) else {
-        return Field::Refused(malformed);
+    let Some((v, next)) = read_number(s, at, most) else {
+        return Err(text.malformed());
     };
-    if v < lo {
-        return Field::Refused(out_of_range);
+    if v < lo || hi < v {
+        return Err(text.out_of_range());
     }
-    if hi < v {
-        return Field::Refused(out_of_range);
-    }
-    Field::Value(v, next)
+    Ok((v, next))
 }
 
 // Numbers below these take so many bytes.

@@ -7,8 +7,8 @@ ghost use Rattle.columns_laws.specs.Walks.{Short, longer, measuring, at_start, t
 
 use crate::MAX_RECORDS;
 use codec::number_len;
-use columns_laws::{Measured, Walk};
-use trace::{Reading, Record, read_record};
+use columns_laws::Walk;
+use trace::{Record, read_record};
 
 // One record more.
 fn longer(count: u64, t: Walk, r: Record, next: usize) -> Walk
@@ -26,27 +26,23 @@ fn longer(count: u64, t: Walk, r: Record, next: usize) -> Walk
     }
 }
 
-// The record at the walk's position.
-fn measure_record(s: &[u8], count: u64, t: Walk) -> Measured
+// The record at the walk's position: how many records there are then, and the walk behind it.
+fn measure_record(s: &[u8], count: u64, t: Walk) -> Option<(u64, Walk)>
     requires { Short count t }
     ensures { result ≡ measuring count t (read_record in_force s.now t.at) }
 {
-    match read_record(s, t.at) {
-        Reading::Refused(_) => Measured::Refused,
-        Reading::NoMore => Measured::Refused,
-        Reading::Taken(r, next) => {
-            if r.clock < t.clock {
-                return Measured::Refused;
-            }
-            if count == MAX_RECORDS {
-                return Measured::Refused;
-            }
-            Measured::Taken(count + 1, longer(count, t, r, next))
-        }
+    let (r, next) = read_record(s, t.at).ok().flatten()?;
+    if r.clock < t.clock {
+        return None;
     }
+    if count == MAX_RECORDS {
+        return None;
+    }
+    Some((count + 1, longer(count, t, r, next)))
 }
 
-pub fn measure(s: &[u8]) -> Measured
+// The number of records and a walk whose columns count bytes.
+pub fn measure(s: &[u8]) -> Option<(u64, Walk)>
     ensures { totals_of result ≡ totals 0 at_start (whole_from max_records s.now (read_record in_force s.now 0)) }
 {
     let mut count: u64 = 0;
@@ -58,14 +54,9 @@ pub fn measure(s: &[u8]) -> Measured
         blocks: 0,
         outcomes: 0,
     };
+    // kept: the position goes on by the bytes of a record, and nothing is counted up
     while t.at < s.len() {
-        match measure_record(s, count, t) {
-            Measured::Refused => return Measured::Refused,
-            Measured::Taken(n, next) => {
-                count = n;
-                t = next;
-            }
-        }
+        (count, t) = measure_record(s, count, t)?;
     }
-    Measured::Taken(count, t)
+    Some((count, t))
 }

@@ -6,81 +6,58 @@ ghost use Rattle.columns_laws.specs.Columns.{max_records, clocks_from};
 ghost use Rattle.columns_laws.specs.Walks.{sized, ends, Surveyed};
 
 use crate::MAX_RECORDS;
-use codec::{Field, number_len};
-use columns_laws::{Clocks, Column, Survey, Walk};
+use codec::number_len;
+use columns_laws::Walk;
 use constants::Model;
 use trace::{MAX_BLOCK, MAX_OUTCOME, trace_field};
 
-fn scan_clocks(s: &[u8], at: usize, count: u64) -> Clocks
+// The position after the differences, and how many bytes their clocks take.
+fn scan_clocks(s: &[u8], at: usize, count: u64) -> Option<(usize, usize)>
     requires { count ≤ max_records }
     ensures { result ≡ sized 0 (clocks_from s.now count 0 (cursor_at at 0 0)) }
 {
-    let mut left = count;
     let mut clock: u64 = 0;
     let mut next = at;
     let mut size: usize = 0;
-    while 0 < left {
-        match trace_field(s, next, 0, Model::MAX_CLOCK - clock) {
-            Field::Refused(_) => return Clocks::Refused,
-            Field::Value(difference, after) => {
-                clock += difference;
-                size += number_len(clock);
-                next = after;
-                left -= 1;
-            }
-        }
+    for _ in 0..count {
+        let (difference, after) = trace_field(s, next, 0, Model::MAX_CLOCK - clock).ok()?;
+        clock += difference;
+        size += number_len(clock);
+        next = after;
     }
-    Clocks::End(next, size)
+    Some((next, size))
 }
 
-fn scan_column(s: &[u8], at: usize, count: u64, lo: u64, hi: u64) -> Column
+// The position after a column.
+fn scan_column(s: &[u8], at: usize, count: u64, lo: u64, hi: u64) -> Option<usize>
     ensures { result ≡ ends (times count (trace_field in_force s.now lo hi) (cursor_at at 0 0)) }
 {
-    let mut left = count;
     let mut next = at;
-    while 0 < left {
-        match trace_field(s, next, lo, hi) {
-            Field::Refused(_) => return Column::Refused,
-            Field::Value(_, after) => {
-                next = after;
-                left -= 1;
-            }
-        }
+    for _ in 0..count {
+        (_, next) = trace_field(s, next, lo, hi).ok()?;
     }
-    Column::End(next)
+    Some(next)
 }
 
-pub fn survey_columns(s: &[u8]) -> Survey
+// The number of records, where each column begins, and the bytes of the trace.
+pub fn survey_columns(s: &[u8]) -> Option<(u64, Walk, usize)>
     ensures { Surveyed s.now result }
 {
-    let Field::Value(count, differences) = trace_field(s, 0, 0, MAX_RECORDS) else {
-        return Survey::Refused;
-    };
-    let Clocks::End(transactions, size) = scan_clocks(s, differences, count) else {
-        return Survey::Refused;
-    };
-    let Column::End(blocks) = scan_column(s, transactions, count, 1, Model::MAX_TRANSACTION) else {
-        return Survey::Refused;
-    };
-    let Column::End(outcomes) = scan_column(s, blocks, count, 1, MAX_BLOCK) else {
-        return Survey::Refused;
-    };
-    let Column::End(end) = scan_column(s, outcomes, count, 0, MAX_OUTCOME) else {
-        return Survey::Refused;
-    };
+    let (count, differences) = trace_field(s, 0, 0, MAX_RECORDS).ok()?;
+    let (transactions, size) = scan_clocks(s, differences, count)?;
+    let blocks = scan_column(s, transactions, count, 1, Model::MAX_TRANSACTION)?;
+    let outcomes = scan_column(s, blocks, count, 1, MAX_BLOCK)?;
+    let end = scan_column(s, outcomes, count, 0, MAX_OUTCOME)?;
     if end != s.len() {
-        return Survey::Refused;
+        return None;
     }
-    Survey::Taken(
-        count,
-        Walk {
-            at: 0,
-            clock: 0,
-            differences,
-            transactions,
-            blocks,
-            outcomes,
-        },
-        size + (end - transactions),
-    )
+    let start = Walk {
+        at: 0,
+        clock: 0,
+        differences,
+        transactions,
+        blocks,
+        outcomes,
+    };
+    Some((count, start, size + (end - transactions)))
 }

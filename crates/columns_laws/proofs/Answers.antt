@@ -4,7 +4,8 @@ use Rattle.codec.specs.Writing as buffer
 use Rattle.codec.specs.Writing.{put}
 use Rattle.codec.proofs.Writing.{put-room, written-bytes}
 use Rattle.trace.specs.Answers.{after}
-use Rattle.columns_laws.specs.{declared.walk.Walk.Walk, declared.measure.Measured.TheVariants.Taken, declared.measure.Measured.TheVariants.Refused, declared.survey.Survey.Survey, declared.survey.Survey.TheVariants.Taken as Surveys, declared.survey.Survey.TheVariants.Refused as NoColumns}
+use Rattle.std.specs.Prelude.{Some, None, Option as Maybe}
+use Rattle.columns_laws.specs.declared.walk.Walk.{Walk}
 use Rattle.columns_laws.specs.{max_records, clocks, transactions, blocks, outcomes, differences, column, column_bytes, never_fall, whole_from, rising, taken_trace, taken_columns, answer, to_columns, from_columns, at_start, totals_of, Totals, totalled, totals, place_all, restore_all, found_all, Holds, Surveyed}
 use Rattle.columns_laws.proofs.{Claims.taken-such, Placing.columns-length, Placing.columns-placed, Surveying.column-longest, Restoring.restored-all}
 
@@ -48,7 +49,7 @@ pub record Sized (s : List ℕ) (count : ℕ) (t : Walk) : Type 0 where
 
 module _ (s : List ℕ) where
   -- a trace with a refused record, a falling clock or too many records is not taken
-  pub measured-none : totals_of Refused ≡ totals 0 at_start (whole_from max_records s (read_record in_force s 0)) → taken_trace s ≡ none
+  pub measured-none : totals_of None ≡ totals 0 at_start (whole_from max_records s (read_record in_force s 0)) → taken_trace s ≡ none
   unfolding taken_trace totals_of
   measured-none e = go (whole_from max_records s (read_record in_force s 0)) e
     where
@@ -61,7 +62,7 @@ module _ (s : List ℕ) where
       go (some l) f = unfold rising totals in (choose l (never_fall 0 (clocks l)) f)
 
   -- else the walk has the sizes of its four columns
-  pub measured-some : (count : ℕ) (t : Walk) → totals_of (Taken count t) ≡ totals 0 at_start (whole_from max_records s (read_record in_force s 0))
+  pub measured-some : (count : ℕ) (t : Walk) → totals_of (Some (count, t)) ≡ totals 0 at_start (whole_from max_records s (read_record in_force s 0))
       → Sized s count t
   unfolding totals_of
   measured-some count t e = go (whole_from max_records s (read_record in_force s 0)) refl e
@@ -190,12 +191,12 @@ to-51 s out e = answers-51 column_bytes (taken_trace s) out e
 
 -- ---- From columns
 
-module _ (s : List ℕ) (r : Survey) (h : Surveyed s r) where
-  pub surveyed-none : r ≡ NoColumns → taken_columns s ≡ none
+module _ (s : List ℕ) (r : Maybe (ℕ × Walk × ℕ)) (h : Surveyed s r) where
+  pub surveyed-none : r ≡ None → taken_columns s ≡ none
   surveyed-none e = rw e at h
 
   -- columns that are surveyed hold records, each column begins where the walk says, and the trace has that length
-  pub surveyed-taken : {count : ℕ} {t : Walk} {len : ℕ} → r ≡ Surveys count t len → Holds s count t len
+  pub surveyed-taken : {count : ℕ} {t : Walk} {len : ℕ} → r ≡ Some (count, t, len) → Holds s count t len
   surveyed-taken e = rw e at h
 
 pub from-51 : (s out : List ℕ) → taken_columns s ≡ none → Answers (rejected 51) (from_columns s (length out)) out out

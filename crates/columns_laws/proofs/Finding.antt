@@ -7,7 +7,7 @@ use Rattle.columns_laws.proofs.Parsing.{Stands, stands-first, stands-rest, Betwe
 
 module _ (s : List ℕ) where
   number-stands : (at v : ℕ) (l : List ℕ) (end : ℕ) → v ≤ five_groups → Stands s at (v ∷ l) end →
-      number_at s at ≡ record { value = v; next = at + length (number_bytes v) }
+      number_at s at ≡ (v, at + length (number_bytes v))
   unfolding number_or
   number-stands at v l end small h =
       let fits = number_bytes-length 4 v (omega arith) in

@@ -2,40 +2,46 @@
 use Rattle.machine.specs.All.{clash, ℕ, zero, suc, ◌+◌, ◌-◌, ◌≤◌, ◌<◌, add-zero, arith, Bool, true, false, cond, List, [], ◌∷◌, ◌++◌, Option, none, some, ◌≡◌, refl, sym, ap, ltb, eqb, length, length-append, lt-ltb, le-ltb, eq-eqb, ne_eqb, le-leb, lt-leb, ltb-true, ltb-false, eqb-true, eqb-false, in_force, taken, refusal, no_more, read_record, ◌∙◌}
 use Rattle.machine.specs.Trace as machine
 use Rattle.codec.proofs.Numbers.{number_bytes-longest}
-use Rattle.trace.specs.{declared.Record.Record, declared.Reading.Reading, Answers.entry, Answers.reading_of}
-use Rattle.trace.specs.declared.Reading.TheVariants.{Taken as Read, Refused as Unread, NoMore}
+use Rattle.std.specs.{Prelude.Some, Prelude.None, Prelude.Option as Maybe, Prelude.Result, Prelude.Ok, Prelude.Err, Option.option_flatten, Result.result_ok}
+use Rattle.constants.specs.declared.refusals.Refusal.{Refusal}
+use Rattle.trace.specs.{declared.Record.Record, Answers.entry, Answers.reading_of}
 use Rattle.trace.proofs.{Reader.past_end, RoundTrip.no-more-end}
 use Rattle.columns_laws.specs.declared.walk.Walk.{Walk}
-use Rattle.columns_laws.specs.declared.measure.Measured.TheVariants.{Taken, Refused}
 use Rattle.columns_laws.specs.{max_records, clocks, differences, column, never_fall, behind, whole_from, Short, longer, measuring, Totals, totalled, totals, totals_of}
 use Rattle.columns_laws.proofs.Whole.{whole-refusal, whole-more, whole-none, whole-taken}
 
 -- ---- One record
 
-module _ (count : ℕ) (t : Walk) (x : Reading) {y : machine.Reading} (e : reading_of x ≡ y) where
-  pub measured-refusal : {n : ℕ} → x ≡ Unread n → Refused ≡ measuring count t y
+-- a refusal, or no more
+pub measured-none : (count : ℕ) (t : Walk) (x : Result (Maybe (Record × ℕ)) Refusal) {y : machine.Reading} → reading_of x ≡ y →
+    option_flatten (result_ok x) ≡ None → None ≡ measuring count t y
+unfolding measuring
+measured-none count t (Ok (Some z)) e h = clash (cc)
+measured-none count t (Ok None) e h = rw (← e) refl
+measured-none count t (Err r) e h = rw (← e) refl
+
+read-some : (x : Result (Maybe (Record × ℕ)) Refusal) (r : Record) (next : ℕ) → option_flatten (result_ok x) ≡ Some (r, next) →
+    x ≡ Ok (Some (r, next))
+read-some (Ok (Some z)) r next h = ap Ok h
+read-some (Ok None) r next h = clash (cc)
+read-some (Err n) r next h = clash (cc)
+
+module _ (count : ℕ) (t : Walk) (x : Result (Maybe (Record × ℕ)) Refusal) {y : machine.Reading} (e : reading_of x ≡ y)
+    {r : Record} {next : ℕ} (h : option_flatten (result_ok x) ≡ Some (r, next)) where
+  pub measured_fallen : r.clock < t.clock → None ≡ measuring count t y
   unfolding measuring
-  measured-refusal h = rw (← e, h)
+  measured_fallen low = rw (← e, read-some x r next h, lt-ltb _ _ low)
 
-  pub measured-more : x ≡ NoMore → Refused ≡ measuring count t y
+  -- one record more than the limit
+  pub measured-many : t.clock ≤ r.clock → count ≡ max_records → None ≡ measuring count t y
   unfolding measuring
-  measured-more h = rw (← e, h)
+  measured-many high full = rw (← e, read-some x r next h, le-ltb _ _ high, eq-eqb _ _ full)
 
-  module _ {r : Record} {next : ℕ} (h : x ≡ Read r next) where
-    pub measured_fallen : r.clock < t.clock → Refused ≡ measuring count t y
-    unfolding measuring
-    measured_fallen low = rw (← e, h, lt-ltb _ _ low)
-
-    -- one record more than the limit
-    pub measured-many : t.clock ≤ r.clock → count ≡ max_records → Refused ≡ measuring count t y
-    unfolding measuring
-    measured-many high full = rw (← e, h, le-ltb _ _ high, eq-eqb _ _ full)
-
-    -- a record lengthens each column by its own number
-    pub measured-taken : t.clock ≤ r.clock → (count ≡ max_records → ⊥) → {w : Walk} →
-        w ≡ longer t (entry r.clock r.transaction r.block r.outcome) next → Taken (count + 1) w ≡ measuring count t y
-    unfolding measuring
-    measured-taken high room f = rw (f, ← e, h, le-ltb _ _ high, ne_eqb _ _ room)
+  -- a record lengthens each column by its own number
+  pub measured-taken : t.clock ≤ r.clock → (count ≡ max_records → ⊥) → {w : Walk} →
+      w ≡ longer t (entry r.clock r.transaction r.block r.outcome) next → Some (count + 1, w) ≡ measuring count t y
+  unfolding measuring
+  measured-taken high room f = rw (f, ← e, read-some x r next h, le-ltb _ _ high, ne_eqb _ _ room)
 
 -- ---- Totals
 
@@ -78,12 +84,12 @@ pub record Stepped (s : List ℕ) (count : ℕ) (t : Walk) (n : ℕ) (t' : Walk)
 
 module _ (s : List ℕ) (count : ℕ) (t : Walk) (short : Short count t) where
   -- a step that refuses refuses the trace
-  pub step-refused : t.at < length s → Refused ≡ measuring count t (read_record in_force s t.at) → totals_of Refused ≡ Rest s count t
+  pub step-refused : t.at < length s → None ≡ measuring count t (read_record in_force s t.at) → totals_of None ≡ Rest s count t
   unfolding measuring totals_of
   step-refused inside e = go (read_record in_force s t.at) refl e
     where
       choose : (r : machine.Record) (next : ℕ) (a b : Bool) → ltb r.clock t.clock ≡ a → eqb count max_records ≡ b →
-          Refused ≡ cond a Refused (cond b Refused (Taken (count + 1) (longer t r next))) →
+          ◌≡◌ {A = Maybe (ℕ × Walk)} None (cond a None (cond b None (Some (count + 1, longer t r next)))) →
           none ≡ totals count t (whole_from (max_records - count) s (taken r next))
       choose r next true b f g h = fallen (max_records - count)
         where
@@ -95,14 +101,14 @@ module _ (s : List ℕ) (count : ℕ) (t : Walk) (short : Short count t) where
           rw (whole-none s r next (max_records - count) (omega arith)) (unfold totals in refl)
       choose r next false false f g h = clash (cc)
 
-      go : (y : machine.Reading) → read_record in_force s t.at ≡ y → Refused ≡ measuring count t y →
+      go : (y : machine.Reading) → read_record in_force s t.at ≡ y → None ≡ measuring count t y →
           none ≡ totals count t (whole_from (max_records - count) s y)
       go (taken r next) f h = choose r next _ _ refl refl h
       go (refusal n) f h = rw (whole-refusal s (max_records - count) n) (unfold totals in refl)
       go no_more f h = absurd (omega (arith, no-more-end s t.at f))
 
   -- a step that takes one leaves the rest of the trace to be measured
-  pub step-taken : (n : ℕ) (t' : Walk) → Taken n t' ≡ measuring count t (read_record in_force s t.at) → Stepped s count t n t'
+  pub step-taken : (n : ℕ) (t' : Walk) → Some (n, t') ≡ measuring count t (read_record in_force s t.at) → Stepped s count t n t'
   unfolding measuring
   step-taken n t' e = go (read_record in_force s t.at) refl e
     where
@@ -117,12 +123,13 @@ module _ (s : List ℕ) (count : ℕ) (t : Walk) (short : Short count t) where
 
       choose : (r : machine.Record) (next : ℕ) → read_record in_force s t.at ≡ taken r next → (a b : Bool) → ltb r.clock t.clock ≡ a
           → eqb count max_records ≡ b →
-          Taken n t' ≡ cond a Refused (cond b Refused (Taken (count + 1) (longer t r next))) → Stepped s count t n t'
+          ◌≡◌ {A = Maybe (ℕ × Walk)} (Some (n, t')) (cond a None (cond b None (Some (count + 1, longer t r next)))) → Stepped s count t n t'
       choose r next y true b f g h = clash (cc)
       choose r next y false true f g h = clash (cc)
       choose r next y false false f g h =
-          let en : n ≡ count + 1 = cc in
-          let et : t' ≡ longer t r next = cc in
+          let same : ◌≡◌ {A = ℕ × Walk} (n, t') (count + 1, longer t r next) = cc in
+          let en : n ≡ count + 1 = ap (λ (p : ℕ × Walk). p.0) same in
+          let et : t' ≡ longer t r next = ap (λ (p : ℕ × Walk). p.1) same in
           let differs : count ≡ max_records → ⊥ = eqb-false _ _ g in
           let room : count < max_records = below differs short.few in
           let k : max_records - count ≡ suc (max_records - (count + 1)) = omega arith in
@@ -149,15 +156,15 @@ module _ (s : List ℕ) (count : ℕ) (t : Walk) (short : Short count t) where
               ≡ totals (count + 1) (longer t r next) (f (read_record in_force s (longer t r next).at))
           at_next f r next = unfold longer in refl
 
-      go : (y : machine.Reading) → read_record in_force s t.at ≡ y → Taken n t' ≡ measuring count t y → Stepped s count t n t'
+      go : (y : machine.Reading) → read_record in_force s t.at ≡ y → Some (n, t') ≡ measuring count t y → Stepped s count t n t'
       go (taken r next) f h = choose r next f _ _ refl refl h
       go (refusal k) f h = clash (cc)
       go no_more f h = clash (cc)
 
   -- past the end nothing is to come
-  pub step_end : length s ≤ t.at → totals_of (Taken count t) ≡ Rest s count t
+  pub step_end : length s ≤ t.at → totals_of (Some (count, t)) ≡ Rest s count t
   unfolding totals_of
   step_end past = rw (← past_end s t.at past, whole-more s (max_records - count)) (unfold totals never_fall in sym go)
     where
-      go : some (totalled count t []) ≡ totals_of (Taken count t)
+      go : some (totalled count t []) ≡ totals_of (Some (count, t))
       go = unfold column differences totals_of in simp add-zero

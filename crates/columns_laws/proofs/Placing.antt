@@ -3,52 +3,44 @@ use Rattle.machine.specs.All.{ℕ, suc, ◌+◌, ◌-◌, ◌≤◌, ◌<◌, ze
 use Rattle.machine.specs.Trace as machine
 use Rattle.codec.specs.Writing.{put, written}
 use Rattle.codec.proofs.{Stores.sets-append, Writing.put-room}
-use Rattle.trace.specs.{declared.Reading.Reading, declared.Record.Record as Numbers, Answers.reading_of}
-use Rattle.trace.specs.declared.Reading.TheVariants.{Taken as Read, Refused as Unread, NoMore}
+use Rattle.std.specs.{Prelude.Some, Prelude.None, Prelude.Option as Maybe, Prelude.Result, Prelude.Ok, Prelude.Err, Option.option_flatten, Option.unwrap_or, Result.result_ok}
+use Rattle.constants.specs.declared.refusals.Refusal.{Refusal}
+use Rattle.trace.specs.{declared.Record.Record as Numbers, Answers.reading_of}
 use Rattle.trace.specs.Whole.{Reads, ends, takes}
-use Rattle.columns_laws.specs.{declared.walk.Walk.Walk, declared.place.Entry.Entry}
-use Rattle.columns_laws.specs.{clocks, transactions, blocks, outcomes, differences, column, column_bytes, Moved, moved, entry_of, record_at, place, place_all}
+use Rattle.columns_laws.specs.declared.walk.Walk.{Walk}
+use Rattle.columns_laws.specs.{clocks, transactions, blocks, outcomes, differences, column, column_bytes, Moved, moved, numbers, found_at, record_at, place, place_all}
 
 -- ---- The record at a position, by the reader's answer
 
-module _ (at : ℕ) (x : Reading) {y : machine.Reading} (e : reading_of x ≡ y) where
-  pub entry-taken : {r : Numbers} {next : ℕ} → x ≡ Read r next →
-      record { clock = r.clock; transaction = r.transaction; block = r.block; outcome = r.outcome; next = next } ≡ entry_of at y
-  unfolding entry_of
-  entry-taken h = rw (← e, h)
-
-  -- a record that is not read counts as zeros, at the same place
-  pub entry-refused : {n : ℕ} → x ≡ Unread n → record { clock = 0; transaction = 0; block = 0; outcome = 0; next = at } ≡ entry_of at y
-  unfolding entry_of
-  entry-refused h = rw (← e, h)
-
-  pub entry-none : x ≡ NoMore → record { clock = 0; transaction = 0; block = 0; outcome = 0; next = at } ≡ entry_of at y
-  unfolding entry_of
-  entry-none h = rw (← e, h)
+-- a record that is not read counts as zeros, at the same place
+pub entry-found : (at : ℕ) (x : Result (Maybe (Numbers × ℕ)) Refusal) {y : machine.Reading} → reading_of x ≡ y →
+    unwrap_or (option_flatten (result_ok x)) (numbers 0 0 0 0, at) ≡ found_at at y
+unfolding found_at
+entry-found at (Ok (Some z)) e = rw (← e) refl
+entry-found at (Ok None) e = rw (← e) refl
+entry-found at (Err r) e = rw (← e) refl
 
 -- ---- One step of the code
 
 -- four numbers written one after the other
-pub placed : (x y : Entry) → x ≡ y → (t : Walk) (d p1 p2 p3 p4 : ℕ) (out o1 o2 o3 o4 : List ℕ) → d ≡ x.clock - t.clock →
+pub placed : (x y : Numbers × ℕ) → x ≡ y → (t : Walk) (d p1 p2 p3 p4 : ℕ) (out o1 o2 o3 o4 : List ℕ) → d ≡ x.0.clock - t.clock →
     written p1 o1 ≡ put d (written t.differences out) →
-    written p2 o2 ≡ put x.transaction (written t.transactions o1) →
-    written p3 o3 ≡ put x.block (written t.blocks o2) →
-    written p4 o4 ≡ put x.outcome (written t.outcomes o3) →
-    moved (record { at = x.next; clock = x.clock; differences = p1; transactions = p2; blocks = p3; outcomes = p4 }) o4 ≡ place y t out
+    written p2 o2 ≡ put x.0.transaction (written t.transactions o1) →
+    written p3 o3 ≡ put x.0.block (written t.blocks o2) →
+    written p4 o4 ≡ put x.0.outcome (written t.outcomes o3) →
+    moved (record { at = x.1; clock = x.0.clock; differences = p1; transactions = p2; blocks = p3; outcomes = p4 }) o4 ≡ place y t out
 unfolding place moved written
 placed x y same t d p1 p2 p3 p4 out o1 o2 o3 o4 e w1 w2 w3 w4 = rw (← same, ← e, ← w1, ← w2, ← w3, ← w4)
 
-pub place-more : (left : ℕ) (s : List ℕ) (t t' : Walk) (out out' : List ℕ) → 0 < left → moved t' out' ≡ place (record_at s t.at) t out →
-    place_all (left - 1) s t' out' ≡ place_all left s t out
-place-more left s t t' out out' h e =
-    let more : suc (left - 1) ≡ left = omega arith in
-    first ∙ ap (λ (p : Moved). place_all (left - 1) s p.walk p.bytes) e ∙ last ∙ ap (λ (n : ℕ). place_all n s t out) more
+pub place-more : (left less : ℕ) (s : List ℕ) (t t' : Walk) (out out' : List ℕ) → left ≡ suc less → moved t' out' ≡ place (record_at s t.at) t out →
+    place_all less s t' out' ≡ place_all left s t out
+place-more left less s t t' out out' one e =
+    first ∙ ap (λ (p : Moved). place_all less s p.walk p.bytes) e ∙ last ∙ ap (λ (n : ℕ). place_all n s t out) (sym one)
   where
-    first : place_all (left - 1) s t' out' ≡ place_all (left - 1) s (moved t' out').walk (moved t' out').bytes
+    first : place_all less s t' out' ≡ place_all less s (moved t' out').walk (moved t' out').bytes
     first = unfold moved in refl
 
-    last : place_all (left - 1) s (place (record_at s t.at) t out).walk (place (record_at s t.at) t out).bytes
-        ≡ place_all (suc (left - 1)) s t out
+    last : place_all less s (place (record_at s t.at) t out).walk (place (record_at s t.at) t out).bytes ≡ place_all (suc less) s t out
     last = unfold place_all in refl
 
 pub place_none : (left : ℕ) (s : List ℕ) (t : Walk) (out : List ℕ) → left ≤ 0 → out ≡ place_all left s t out
@@ -145,7 +137,7 @@ module _ (t : Walk) (r : Record) (l : List Record) (next : ℕ) (out : List ℕ)
   unfolding differences
   first_difference = column-cons (r.clock - t.clock) (differences r.clock (clocks l))
 
-  placed_one : place (record { clock = r.clock; transaction = r.transaction; block = r.block; outcome = r.outcome; next = next }) t out
+  placed_one : place (numbers r.clock r.transaction r.block r.outcome, next) t out
       ≡ moved (behind_one t r next) (stored_one t r out)
   unfolding place moved written
   placed_one =
@@ -208,10 +200,10 @@ pub placed-all : {s : List ℕ} {at : ℕ} {l : List Record} → Reads s at l �
 placed-all (ends e) t h out room = unfold place_all column differences in refl
 placed-all {s = s} (takes {at = at} {next = next} {r = r} {l = l} e more) t h out room =
     let read : record_at s t.at
-    ≡ record { clock = r.clock; transaction = r.transaction; block = r.block; outcome = r.outcome; next = next } =
-    rw (h, e) (unfold entry_of in refl) in
+    ≡ (numbers r.clock r.transaction r.block r.outcome, next) =
+    rw (h, e) (unfold found_at in refl) in
     let one : place (record_at s t.at) t out ≡ moved (behind_one t r next) (stored_one t r out) =
-    ap (λ (x : Entry). place x t out) read ∙ placed_one t r l next out room in
+    ap (λ (x : Numbers × ℕ). place x t out) read ∙ placed_one t r l next out room in
     let rest = placed-all more (behind_one t r next) refl (stored_one t r out) (room-behind t r l next out room) in
     step one ∙ rest ∙ laid-behind t r l next out room
   where

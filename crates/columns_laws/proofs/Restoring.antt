@@ -1,52 +1,49 @@
 -- The second walk over columns, pure: the records found, written one after the other, are the trace.
-use Rattle.machine.specs.All.{ℕ, zero, suc, ◌+◌, ◌-◌, ◌≤◌, ◌<◌, arith, List, ◌++◌, Option, ◌≡◌, refl, ap, ap₂, ◌∙◌, length, length-append, sets, length-sets, number_bytes, Record, record_bytes, trace_bytes_lem, ◌∷◌, sym}
+use Rattle.machine.specs.All.{ℕ, zero, suc, ◌+◌, ◌-◌, ◌≤◌, arith, List, ◌++◌, Option, ◌≡◌, refl, ap, ap₂, ◌∙◌, length, length-append, sets, length-sets, number_bytes, Record, record_bytes, trace_bytes_lem, ◌∷◌, sym}
 use Rattle.machine.specs.Number as bytes
-use Rattle.codec.specs.{Writing.put, Writing.written, declared.Read.Read, declared.Read.TheVariants.Number as Whole, declared.Read.TheVariants.Refused as Unread, Answers.number_of, Writing.Written}
+use Rattle.codec.specs.{Writing.put, Writing.written, Answers.number_of, Writing.Written}
 use Rattle.codec.proofs.{Stores.sets-append, Writing.put-room}
 use Rattle.trace.proofs.Writer.{record_bytes-length}
-use Rattle.columns_laws.specs.{declared.walk.Walk.Walk, declared.restore.Number.Number}
+use Rattle.std.specs.{Prelude.Some, Prelude.None, Prelude.Option as Maybe, Option.unwrap_or}
+use Rattle.columns_laws.specs.declared.walk.Walk.{Walk}
 use Rattle.columns_laws.specs.{number_or, number_at, later, moved, found, passed, restore, restore_all, found_all, Moved}
 
 -- ---- The number at a position, by the codec's answer
 
-module _ (at : ℕ) (x : Read) {o : Option bytes.Number} (e : number_of at x ≡ o) where
-  pub number-unread : x ≡ Unread → record { value = 0; next = at } ≡ number_or at o
-  unfolding number_or number_of
-  number-unread h = rw (← e, h)
-
-  -- a number that is read, and the place behind it
-  pub number_read : {v next : ℕ} → x ≡ Whole v next → at ≤ next → record { value = v; next = next } ≡ number_or at o
-  unfolding number_or number_of
-  number_read {v} {next} h after =
-      let n : next ≡ at + (next - at) = omega arith in
-      rw (← e, h) (ap (λ (i : ℕ). record { value = v; next = i }) n)
+-- a number that is read, and the place behind it; else zero, at the same place
+pub number_read : (at : ℕ) (x : Maybe (ℕ × ℕ)) {o : Option bytes.Number} → number_of at x ≡ o →
+    ((v next : ℕ) → x ≡ Some (v, next) → at ≤ next) → unwrap_or x (0, at) ≡ number_or at o
+unfolding number_or number_of
+number_read at (Some (v, next)) e after =
+    let n : next ≡ at + (next - at) = omega (arith, after v next refl) in
+    rw (← e) (ap (λ (i : ℕ). (v, i)) n)
+number_read at None e after = rw (← e) refl
 
 -- ---- One step of the code
 
 -- one number of each column is one record of the trace
-pub restored : (s : List ℕ) (t : Walk) (d n b o : Number) (clock p1 p2 p3 p4 : ℕ) (out o1 o2 o3 o4 : List ℕ) →
+pub restored : (s : List ℕ) (t : Walk) (d n b o : ℕ × ℕ) (clock p1 p2 p3 p4 : ℕ) (out o1 o2 o3 o4 : List ℕ) →
     d ≡ number_at s t.differences → n ≡ number_at s t.transactions → b ≡ number_at s t.blocks → o ≡ number_at s t.outcomes →
-    clock ≡ later t.clock d.value →
+    clock ≡ later t.clock d.0 →
     written p1 o1 ≡ put clock (written t.at out) →
-    written p2 o2 ≡ put n.value (written p1 o1) →
-    written p3 o3 ≡ put b.value (written p2 o2) →
-    written p4 o4 ≡ put o.value (written p3 o3) →
-    moved (record { at = p4; clock = clock; differences = d.next; transactions = n.next; blocks = b.next; outcomes = o.next }) o4
+    written p2 o2 ≡ put n.0 (written p1 o1) →
+    written p3 o3 ≡ put b.0 (written p2 o2) →
+    written p4 o4 ≡ put o.0 (written p3 o3) →
+    moved (record { at = p4; clock = clock; differences = d.1; transactions = n.1; blocks = b.1; outcomes = o.1 }) o4
     ≡ restore s t out
 unfolding restore found passed
 restored s t d n b o clock p1 p2 p3 p4 out o1 o2 o3 o4 ed en eb eo ec w1 w2 w3 w4 =
     rw (← ed, ← en, ← eb, ← eo, ← ec, ← w1, ← w2, ← w3, ← w4) (unfold written in refl)
 
-pub restore-more : (left : ℕ) (s : List ℕ) (t t' : Walk) (out out' : List ℕ) → 0 < left → moved t' out' ≡ restore s t out →
-    restore_all (left - 1) s t' out' ≡ restore_all left s t out
-restore-more left s t t' out out' h e =
-    let more : suc (left - 1) ≡ left = omega arith in
-    first ∙ ap (λ (p : Moved). restore_all (left - 1) s p.walk p.bytes) e ∙ last ∙ ap (λ (n : ℕ). restore_all n s t out) more
+pub restore-more : (left less : ℕ) (s : List ℕ) (t t' : Walk) (out out' : List ℕ) → left ≡ suc less → moved t' out' ≡ restore s t out →
+    restore_all less s t' out' ≡ restore_all left s t out
+restore-more left less s t t' out out' one e =
+    first ∙ ap (λ (p : Moved). restore_all less s p.walk p.bytes) e ∙ last ∙ ap (λ (n : ℕ). restore_all n s t out) (sym one)
   where
-    first : restore_all (left - 1) s t' out' ≡ restore_all (left - 1) s (moved t' out').walk (moved t' out').bytes
+    first : restore_all less s t' out' ≡ restore_all less s (moved t' out').walk (moved t' out').bytes
     first = unfold moved in refl
 
-    last : restore_all (left - 1) s (restore s t out).walk (restore s t out).bytes ≡ restore_all (suc (left - 1)) s t out
+    last : restore_all less s (restore s t out).walk (restore s t out).bytes ≡ restore_all (suc less) s t out
     last = unfold restore_all in refl
 
 pub restore-none : (left : ℕ) (s : List ℕ) (t : Walk) (out : List ℕ) → left ≤ 0 → out ≡ restore_all left s t out

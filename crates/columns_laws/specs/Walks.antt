@@ -4,8 +4,10 @@ use Rattle.machine.specs.All.{ℕ, zero, suc, cond, List, [], Option, none, some
 use Rattle.machine.specs.Number as bytes
 use Rattle.codec.specs.Writing as at
 use Rattle.codec.specs.Writing.{put}
+use Rattle.trace.specs.declared.Record.{Record as Numbers}
 use Rattle.columns_laws.specs.Columns.{max_records, clocks, transactions, blocks, outcomes, differences, column, never_fall, taken_columns}
-use Rattle.columns_laws.specs.{declared.walk.Walk.Walk, declared.measure.Measured.Measured, declared.measure.Measured.TheVariants.Taken, declared.measure.Measured.TheVariants.Refused, declared.place.Entry.Entry, declared.restore.Number.Number, declared.survey.Clocks.Clocks, declared.survey.Clocks.TheVariants.End as ClocksEnd, declared.survey.Clocks.TheVariants.Refused as NoClocks, declared.survey.Column.Column, declared.survey.Column.TheVariants.End as ColumnEnd, declared.survey.Column.TheVariants.Refused as NoColumn, declared.survey.Survey.Survey, declared.survey.Survey.TheVariants.Taken as Surveys, declared.survey.Survey.TheVariants.Refused as NoColumns}
+use Rattle.columns_laws.specs.declared.walk.Walk.{Walk}
+use Rattle.std.specs.Prelude.{Some, None, Option as Maybe}
 
 -- ---- A trace, measured: the columns of a walk count bytes
 
@@ -30,11 +32,11 @@ longer t r next = record {
   outcomes = t.outcomes + length (number_bytes r.outcome);
 }
 
-unfoldable pub measuring : (count : ℕ) → Walk → Reading → Measured
+unfoldable pub measuring : (count : ℕ) → Walk → Reading → Maybe (ℕ × Walk)
 measuring count t (taken r next) =
-    cond (ltb r.clock t.clock) Refused (cond (eqb count max_records) Refused (Taken (count + 1) (longer t r next)))
-measuring count t (refusal n) = Refused
-measuring count t no_more = Refused
+    cond (ltb r.clock t.clock) None (cond (eqb count max_records) None (Some (count + 1, longer t r next)))
+measuring count t (refusal n) = None
+measuring count t no_more = None
 
 -- how many records, and how many bytes in each column
 pub record Totals : Type 0 where
@@ -44,15 +46,15 @@ pub record Totals : Type 0 where
   pub blocks : ℕ
   pub outcomes : ℕ
 
-unfoldable pub totals_of : Measured → Option Totals
-totals_of (Taken count t) = some (record {
-  count = count;
-  differences = t.differences;
-  transactions = t.transactions;
-  blocks = t.blocks;
-  outcomes = t.outcomes;
+unfoldable pub totals_of : Maybe (ℕ × Walk) → Option Totals
+totals_of (Some x) = some (record {
+  count = x.0;
+  differences = x.1.differences;
+  transactions = x.1.transactions;
+  blocks = x.1.blocks;
+  outcomes = x.1.outcomes;
 })
-totals_of Refused = none
+totals_of None = none
 
 -- those of a walk with these records still to come
 abbrev pub totalled : (count : ℕ) → Walk → List Record → Totals
@@ -78,23 +80,27 @@ pub record Moved : Type 0 where
 unfoldable pub moved : Walk → List ℕ → Moved
 moved t l = record { walk = t; bytes = l }
 
-unfoldable pub entry_of : (at : ℕ) → Reading → Entry
-entry_of at (taken r next) = record { clock = r.clock; transaction = r.transaction; block = r.block; outcome = r.outcome; next = next }
-entry_of at (refusal n) = record { clock = 0; transaction = 0; block = 0; outcome = 0; next = at }
-entry_of at no_more = record { clock = 0; transaction = 0; block = 0; outcome = 0; next = at }
+-- the record and the position behind it; where none is read zeros, at the same place
+abbrev pub numbers : ℕ → ℕ → ℕ → ℕ → Numbers
+numbers clock transaction block outcome = record { clock = clock; transaction = transaction; block = block; outcome = outcome }
 
-abbrev pub record_at : List ℕ → ℕ → Entry
-record_at s at = entry_of at (read_record in_force s at)
+unfoldable pub found_at : (at : ℕ) → Reading → Numbers × ℕ
+found_at at (taken r next) = (numbers r.clock r.transaction r.block r.outcome, next)
+found_at at (refusal n) = (numbers 0 0 0 0, at)
+found_at at no_more = (numbers 0 0 0 0, at)
+
+abbrev pub record_at : List ℕ → ℕ → Numbers × ℕ
+record_at s at = found_at at (read_record in_force s at)
 
 -- the numbers of a record at the four positions
-unfoldable pub place : Entry → Walk → List ℕ → Moved
-place r t out =
-    let d : at.Written = put (r.clock - t.clock) (at.written t.differences out) in
-    let n : at.Written = put r.transaction (at.written t.transactions d.bytes) in
-    let b : at.Written = put r.block (at.written t.blocks n.bytes) in
-    let o : at.Written = put r.outcome (at.written t.outcomes b.bytes) in
+unfoldable pub place : Numbers × ℕ → Walk → List ℕ → Moved
+place x t out =
+    let d : at.Written = put (x.0.clock - t.clock) (at.written t.differences out) in
+    let n : at.Written = put x.0.transaction (at.written t.transactions d.bytes) in
+    let b : at.Written = put x.0.block (at.written t.blocks n.bytes) in
+    let o : at.Written = put x.0.outcome (at.written t.outcomes b.bytes) in
     moved
-    (record { at = r.next; clock = r.clock; differences = d.at; transactions = n.at; blocks = b.at; outcomes = o.at })
+    (record { at = x.1; clock = x.0.clock; differences = d.at; transactions = n.at; blocks = b.at; outcomes = o.at })
     o.bytes
 
 -- as many records
@@ -104,21 +110,21 @@ place_all (suc n) s t out = let p : Moved = place (record_at s t.at) t out in pl
 
 -- ---- Columns, surveyed
 
-unfoldable pub sized : ℕ → Parsed (List ℕ) → Clocks
-sized size (parsed l c) = ClocksEnd c.position (size + length (column l))
-sized size (refused n) = NoClocks
+unfoldable pub sized : ℕ → Parsed (List ℕ) → Maybe (ℕ × ℕ)
+sized size (parsed l c) = Some (c.position, size + length (column l))
+sized size (refused n) = None
 
-unfoldable pub ends : Parsed (List ℕ) → Column
-ends (parsed l c) = ColumnEnd c.position
-ends (refused n) = NoColumn
+unfoldable pub ends : Parsed (List ℕ) → Maybe ℕ
+ends (parsed l c) = Some c.position
+ends (refused n) = None
 
 -- ---- A trace, written again
 
-unfoldable pub number_or : (at : ℕ) → Option bytes.Number → Number
-number_or at (some n) = record { value = n.value; next = at + n.size }
-number_or at none = record { value = 0; next = at }
+unfoldable pub number_or : (at : ℕ) → Option bytes.Number → ℕ × ℕ
+number_or at (some n) = (n.value, at + n.size)
+number_or at none = (0, at)
 
-abbrev pub number_at : List ℕ → ℕ → Number
+abbrev pub number_at : List ℕ → ℕ → ℕ × ℕ
 number_at s at = number_or at (read_number max_number_bytes five_groups (drop at s))
 
 unfoldable pub later : (clock difference : ℕ) → ℕ
@@ -127,21 +133,21 @@ later clock difference = cond (ltb (max_clock - clock) difference) max_clock (cl
 -- the record at the four positions
 unfoldable pub found : List ℕ → Walk → Record
 found s t = record {
-  clock = later t.clock (number_at s t.differences).value;
-  transaction = (number_at s t.transactions).value;
-  block = (number_at s t.blocks).value;
-  outcome = (number_at s t.outcomes).value;
+  clock = later t.clock (number_at s t.differences).0;
+  transaction = (number_at s t.transactions).0;
+  block = (number_at s t.blocks).0;
+  outcome = (number_at s t.outcomes).0;
 }
 
 -- behind it, at a position of the trace
 unfoldable pub passed : List ℕ → Walk → (at : ℕ) → Walk
 passed s t at = record {
   at = at;
-  clock = later t.clock (number_at s t.differences).value;
-  differences = (number_at s t.differences).next;
-  transactions = (number_at s t.transactions).next;
-  blocks = (number_at s t.blocks).next;
-  outcomes = (number_at s t.outcomes).next;
+  clock = later t.clock (number_at s t.differences).0;
+  differences = (number_at s t.differences).1;
+  transactions = (number_at s t.transactions).1;
+  blocks = (number_at s t.blocks).1;
+  outcomes = (number_at s t.outcomes).1;
 }
 
 unfoldable pub restore : List ℕ → Walk → List ℕ → Moved
@@ -166,6 +172,6 @@ pub record Holds (s : List ℕ) (count : ℕ) (t : Walk) (len : ℕ) : Type 0 wh
   pub at : t.at ≡ 0
   pub clock : t.clock ≡ 0
 
-abbrev pub Surveyed : List ℕ → Survey → Type 0
-Surveyed s (Surveys count t len) = Holds s count t len
-Surveyed s NoColumns = taken_columns s ≡ none
+abbrev pub Surveyed : List ℕ → Maybe (ℕ × Walk × ℕ) → Type 0
+Surveyed s (Some x) = Holds s x.0 x.1 x.2
+Surveyed s None = taken_columns s ≡ none

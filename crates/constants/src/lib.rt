@@ -7,4 +7,7 @@ pub mod kinds;
 mod model;
 pub mod refusals;
 
+pub use ends::End;
+pub use kinds::Kind;
 pub use model::Model;
+pub use refusals::{Refusal, Text};

@@ -1,8 +1,8 @@
 -- What the functions for other languages answer, in the numbers that cross the boundary.
-use Rattle.std.specs.Prelude.{◌∷◌}
+use Rattle.std.specs.Prelude.{◌∷◌, Result, Ok, Err}
 use Rattle.machine.specs.All.{ℕ, List, [], length, Reading, taken, refusal, no_more, Writing, written, rejected}
-use Rattle.streams.specs.declared.Started.{Started}
-use Rattle.streams.specs.declared.Started.TheVariants.{State, Refused}
+use Rattle.constants.specs.Numbers.{refusal_number}
+use Rattle.constants.specs.declared.refusals.Refusal.{Refusal}
 use Rattle.tapes_laws.specs.Tape.{Making, made, refusal as unmade}
 use Rattle.join_laws.specs.Joining.{Joining, joined, refused}
 
@@ -31,13 +31,13 @@ write_count (rejected _) = 0
 
 -- ---- Start of a stream: 0 and the state, or 41, and the state stays as it was
 
-unfoldable pub start_answer : Started → ℕ
-start_answer (State _) = 0
-start_answer (Refused n) = n
+unfoldable pub start_answer : Result ℕ Refusal → ℕ
+start_answer (Ok _) = 0
+start_answer (Err e) = refusal_number e
 
-unfoldable pub start_state : Started → ℕ → ℕ
-start_state (State s) _ = s
-start_state (Refused _) before = before
+unfoldable pub start_state : Result ℕ Refusal → ℕ → ℕ
+start_state (Ok s) _ = s
+start_state (Err _) before = before
 
 -- ---- Tape maker: 0 and how many bytes the tape has, or 41, 42 or 43 and none
 

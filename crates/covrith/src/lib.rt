@@ -1,8 +1,9 @@
 // Each call of Covrith with its answers as numbers, which can cross to other languages: crate covrith_c exports these functions to C.
 #![tactic(auto)]
 
-ghost use Rattle.std.specs.Prelude.{◌≡◌};
+ghost use Rattle.std.specs.Prelude.{◌≡◌, MatchResult};
 ghost use Rattle.machine.specs.All.{length, in_force, count_low, read_record, write_record};
+ghost use Rattle.constants.specs.Numbers.{refusal_number};
 ghost use Rattle.trace.specs.Answers.{entry, after};
 ghost use Rattle.columns_laws.specs.Columns.{to_columns, from_columns};
 ghost use Rattle.engine_laws.specs.Contract.{Contract};
@@ -14,11 +15,9 @@ ghost use Rattle.join.specs.Contract.{model_left, tape_left};
 ghost use Rattle.covrith.specs.Answers.{read_answer, read_numbers, write_answer, write_count, start_answer, start_state, tape_answer, tape_count, join_answer, join_lengths};
 ghost use Rattle.covrith.specs.Results.{results};
 
+use constants::Refusal;
 use constants::refusals::NO_MORE;
-use join::Joined;
-use streams::Started;
-use tapes_laws::Made;
-use trace::{Reading, Written};
+use trace::Record;
 
 // The eight results of a run; a record and the position behind it.
 pub const OUTCOME: usize = 8;
@@ -27,6 +26,22 @@ pub const RECORD: usize = 5;
 
 // The lengths of a joined model and its tape.
 pub const LENGTHS: usize = 2;
+
+// What was written as numbers: 0 and how many bytes, or the number of the refusal and none.
+fn told(written: Result<usize, Refusal>, count: &mut u64) -> u32
+    ensures { MatchResult written (λ n. (result ≡ 0) × (count.new ≡ n)) (λ r. (result ≡ refusal_number r) × (count.new ≡ 0)) }
+{
+    match written {
+        Ok(n) => {
+            *count = n as u64;
+            0
+        }
+        Err(r) => {
+            *count = 0;
+            r.number()
+        }
+    }
+}
 
 // One run of a model on a tape. `outcome` gets the eight results.
 pub fn covrith_run(
@@ -60,12 +75,12 @@ pub fn covrith_read_record(trace: &[u8], position: usize, numbers: &mut [u64; RE
     ensures numbers_after { numbers.new ≡ read_numbers (read_record in_force trace.now position) numbers.old }
 {
     match trace::read_record(trace, position) {
-        Reading::Taken(r, next) => {
+        Ok(Some((r, next))) => {
             *numbers = [r.clock, r.transaction, r.block, r.outcome, next as u64];
             0
         }
-        Reading::Refused(n) => n,
-        Reading::NoMore => NO_MORE,
+        Ok(None) => NO_MORE,
+        Err(r) => r.number(),
     }
 }
 
@@ -83,16 +98,13 @@ pub fn covrith_write_record(
     ensures rest_after { rest.new ≡ after (write_record in_force (length rest.old) (entry clock transaction block outcome))
         rest.old }
 {
-    match trace::write_one(rest, clock, transaction, block, outcome) {
-        Written::Bytes(n) => {
-            *count = n as u64;
-            0
-        }
-        Written::Refused(n) => {
-            *count = 0;
-            n
-        }
-    }
+    let r = Record {
+        clock,
+        transaction,
+        block,
+        outcome,
+    };
+    told(trace::write_one(rest, r), count)
 }
 
 // How many bytes of a trace are below 80 hexadecimal.
@@ -108,11 +120,11 @@ pub fn covrith_stream_start(stream: u32, state: &mut u32) -> u32
     ensures state_after { state.new ≡ start_state (start_of stream) state.old }
 {
     match streams::start(stream) {
-        Started::State(first) => {
-            *state = first;
+        Ok(first) => {
+            *state = first.number();
             0
         }
-        Started::Refused(n) => n,
+        Err(refusal) => refusal.number(),
     }
 }
 
@@ -129,16 +141,7 @@ pub fn covrith_columns(trace: &[u8], out: &mut [u8], written: &mut u64) -> u32
     ensures written_after { written.new ≡ write_count (to_columns trace.now (length out.old)) }
     ensures out_after { out.new ≡ after (to_columns trace.now (length out.old)) out.old }
 {
-    match columns::to_columns(trace, out) {
-        Written::Bytes(n) => {
-            *written = n as u64;
-            0
-        }
-        Written::Refused(n) => {
-            *written = 0;
-            n
-        }
-    }
+    told(columns::to_columns(trace, out), written)
 }
 
 // Columns to the trace that produces them.
@@ -147,16 +150,7 @@ pub fn covrith_uncolumns(columns: &[u8], out: &mut [u8], size: &mut u64) -> u32
     ensures size_after { size.new ≡ write_count (from_columns columns.now (length out.old)) }
     ensures out_after { out.new ≡ after (from_columns columns.now (length out.old)) out.old }
 {
-    match columns::from_columns(columns, out) {
-        Written::Bytes(n) => {
-            *size = n as u64;
-            0
-        }
-        Written::Refused(n) => {
-            *size = 0;
-            n
-        }
-    }
+    told(columns::from_columns(columns, out), size)
 }
 
 // Makes a tape from a stream and distributions. `used` gets the number of its bytes, 0 for a refusal.
@@ -174,13 +168,13 @@ pub fn covrith_make_tape(
     ensures accepts { Accepts stream lists.now numbers.now (length tape.old) }
 {
     match tapes::make(stream, lists, numbers, tape) {
-        Made::Bytes(n) => {
+        Ok(n) => {
             *used = n as u64;
             0
         }
-        Made::Refused(n) => {
+        Err(refusal) => {
             *used = 0;
-            n
+            refusal.number()
         }
     }
 }
@@ -209,13 +203,13 @@ pub fn covrith_join(
         (length tape.old)) tape.old }
 {
     match join::join(model1, tape1, model2, tape2, model, tape) {
-        Joined::Bytes(m, t) => {
-            *lengths = [m as u64, t as u64];
+        Ok((model_bytes, tape_bytes)) => {
+            *lengths = [model_bytes as u64, tape_bytes as u64];
             0
         }
-        Joined::Refused(n) => {
+        Err(refusal) => {
             *lengths = [0, 0];
-            n
+            refusal.number()
         }
     }
 }

@@ -1,9 +1,12 @@
 -- The sample lists of a tape, pure: time by time, list by list, and what their cells then hold.
 use Rattle.machine.specs.All.{clash, ℕ, zero, suc, ◌+◌, ◌-◌, ◌≤◌, ◌<◌, add-one, arith, ◌≡◌, refl, sym, ap, ◌∙◌, Bool, true, false, cond, ◌&&◌, Option, none, some, List, [], ◌∷◌, length, get_or, set, length-set, length-replicate, get_or-eq_default, get_or-set_same, get_or-set_other, ltb, leb, eqb, ltb-true, ltb-false, eq-eqb, ne_eqb, in_force, max_time, max_samples, Number, Cursor, Parsed, parsed, refused, Parser, continue, field_of, times, ask, field_up_to, list_field, at_end, tape_of, beginning}
-use Rattle.codec.specs.{declared.Field.Field, Answers.parsed_of}
-use Rattle.codec.specs.declared.Field.TheVariants.{Value, Refused as NoField}
+use Rattle.std.specs.Prelude.{Result, Ok, Err, IsErrAnd}
+use Rattle.std.proofs.lemmas.Result.{err_from_is_err_and}
+use Rattle.constants.specs.{declared.refusals.Refusal.Refusal}
+use Rattle.constants.specs.declared.refusals.Refusal.TheVariants.{TapeGoesOn}
+use Rattle.codec.specs.Answers.{parsed_of}
 use Rattle.layout.specs.All.{TimesAt}
-use Rattle.decode.specs.{declared.Tape.Tape, declared.Tape.TheVariants.At, declared.Tape.TheVariants.Refused, Lists.Lists}
+use Rattle.decode.specs.Lists.{Tape, Lists}
 use Rattle.parse_values.proofs.Filled.{rows-length, times-rows}
 use Rattle.decode.proofs.Represented.{zeros}
 use Rattle.decode.specs.{cursor_at, tape_field, empty_lists, Skips, OneList, Listed, Filled}
@@ -78,6 +81,19 @@ empty-zero : (x : ℕ) → get_or empty_lists x 0 ≡ 0
 unfolding empty_lists
 empty-zero x = zeros 32 x
 
+-- ---- What a `?` passes on: the refusal of a call is that of its caller
+
+pub skips-passed : {count : ℕ} {r : Tape} {P : Parsed (List ℕ)} {d : Refusal} → IsErrAnd r (λ x. x ≡ d) → Skips count (Err d) P → Skips count r P
+skips-passed {r = r} given k = let e = err_from_is_err_and r given in rw (e.1, e.2) k
+
+pub list-passed : {s : List ℕ} {k : ℕ} {cells after : List ℕ} {r : Tape} {P : Parsed (List ℕ)} {d : Refusal} →
+    IsErrAnd r (λ x. x ≡ d) → Listed s k cells after (Err d) P → Listed s k cells after r P
+list-passed {r = r} given k = let e = err_from_is_err_and r given in rw (e.1, e.2) k
+
+pub lists-passed : {s : List ℕ} {k : ℕ} {cells after : List ℕ} {r : Tape} {P : Parsed (List (List ℕ))} {d : Refusal} →
+    IsErrAnd r (λ x. x ≡ d) → Lists s k cells after (Err d) P → Lists s k cells after r P
+lists-passed {r = r} given k = let e = err_from_is_err_and r given in rw (e.1, e.2) k
+
 -- ---- Times
 
 module _ (s : List ℕ) where
@@ -90,18 +106,18 @@ module _ (s : List ℕ) where
       (i j : ℕ) (r : Tape) → Skips left r (times left time (cursor_at next i j)) → Skips count r (times count time (cursor_at at i j))
 
   -- no times left: the walk stands behind the list
-  pub times_none : (left next i j : ℕ) → left ≤ 0 → Skips left (At next) (times left time (cursor_at next i j))
+  pub times_none : (left next i j : ℕ) → left ≤ 0 → Skips left (Ok next) (times left time (cursor_at next i j))
   unfolding times
   times_none left next i j h = let e : left ≡ 0 = omega arith in rw e (record { held = (refl, refl) })
 
-  module _ (left next : ℕ) (f : Field) (some : 0 < left) (e : (i j : ℕ) → parsed_of i j f ≡ tape_field s max_time (cursor_at next i j)) where
+  module _ (left next : ℕ) (f : Result (ℕ × ℕ) Refusal) (some : 0 < left) (e : (i j : ℕ) → parsed_of i j f ≡ tape_field s max_time (cursor_at next i j)) where
     -- a time that fails its question stops the walk with that question's number
-    pub times-stop : {n : ℕ} (i j : ℕ) → f ≡ NoField n → Skips left (Refused n) (times left time (cursor_at next i j))
+    pub times-stop : {d : Refusal} (i j : ℕ) → f ≡ Err d → Skips left (Err d) (times left time (cursor_at next i j))
     unfolding times parsed_of continue
     times-stop i j told = let more : left ≡ suc (left - 1) = omega arith in rw (more, ← e i j, told) (record { held = refl })
 
     -- one time, and the walk over the others
-    pub times-step : {v after : ℕ} → f ≡ Value v after → (i j : ℕ) (r : Tape)
+    pub times-step : {v after : ℕ} → f ≡ Ok (v, after) → (i j : ℕ) (r : Tape)
         → Skips (left - 1) r (times (left - 1) time (cursor_at after i j)) →
         Skips left r (times left time (cursor_at next i j))
     unfolding times parsed_of continue
@@ -115,16 +131,16 @@ module _ (s : List ℕ) where
 
 -- ---- A list
 
-module _ (s : List ℕ) (k : ℕ) (cells : List ℕ) (at : ℕ) (f : Field)
+module _ (s : List ℕ) (k : ℕ) (cells : List ℕ) (at : ℕ) (f : Result (ℕ × ℕ) Refusal)
     (e : (i j : ℕ) → parsed_of i j f ≡ tape_field s max_samples (cursor_at at i j)) where
   -- the list's length fails its question
-  pub list-stop : {n : ℕ} (after : List ℕ) (i j : ℕ) → f ≡ NoField n
-      → Listed s k cells after (Refused n) (list_field s in_force (cursor_at at i j))
+  pub list-stop : {d : Refusal} (after : List ℕ) (i j : ℕ) → f ≡ Err d
+      → Listed s k cells after (Err d) (list_field s in_force (cursor_at at i j))
   unfolding list_field parsed_of continue
   list-stop after i j told = rw (← e i j, told) (record { held = refl })
 
   -- length and begin of a list are stored, and its times are walked over, not stored
-  pub list-kept : {count next : ℕ} {r : Tape} → f ≡ Value count next
+  pub list-kept : {count next : ℕ} {r : Tape} → f ≡ Ok (count, next)
       → ((i j : ℕ) → Skips count r (times count (time s) (cursor_at next i j))) → (i j : ℕ) →
       Listed s k cells (set (set cells k next) (16 + k) count) r (list_field s in_force (cursor_at at i j))
   unfolding list_field parsed_of continue
@@ -163,27 +179,27 @@ module _ (s : List ℕ) (count : ℕ) where
 
   -- all lists are read
   pub lists-none : (k next : ℕ) (cells : List ℕ) → count ≤ k
-      → Lists s k cells cells (At next) (times (count - k) (list_field s in_force) (cursor_at next 0 0))
+      → Lists s k cells cells (Ok next) (times (count - k) (list_field s in_force) (cursor_at next 0 0))
   unfolding times
   lists-none k next cells h = let e : count - k ≡ 0 = omega arith in rw e (record { held = (refl, refl) })
 
   module _ (k next : ℕ) (cells cells₁ : List ℕ) (r : Tape) (some : k < count)
       (one : (i j : ℕ) → Listed s k cells cells₁ r (list_field s in_force (cursor_at next i j))) where
     -- a list in which a question fails stops the tape
-    pub lists-stop : {n : ℕ} (after : List ℕ) → r ≡ Refused n
-        → Lists s k cells after (Refused n) (times (count - k) (list_field s in_force) (cursor_at next 0 0))
+    pub lists-stop : {d : Refusal} (after : List ℕ) → r ≡ Err d
+        → Lists s k cells after (Err d) (times (count - k) (list_field s in_force) (cursor_at next 0 0))
     unfolding times continue
-    lists-stop {n} after told =
+    lists-stop {d} after told =
         let more : count - k ≡ suc (count - (k + 1)) = omega arith in rw more (go (list_field s in_force (cursor_at next 0 0)) (one 0 0))
       where
         go : (P : Parsed (List ℕ)) → Listed s k cells cells₁ r P →
-            Lists s k cells after (Refused n)
-            (continue P (λ l c. continue (times (count - (k + 1)) (list_field s in_force) c) (λ ls d. parsed (l ∷ ls) d)))
+            Lists s k cells after (Err d)
+            (continue P (λ l c. continue (times (count - (k + 1)) (list_field s in_force) c) (λ ls e. parsed (l ∷ ls) e)))
         go (parsed l c) h = let e = sym told ∙ h.held.0 in clash (cc)
-        go (refused i) h = let e = sym told ∙ h.held in let f : n ≡ i = cc in record { held = ap Refused f }
+        go (refused i) h = record { held = rw told at h.held }
 
     -- one list, and the others behind it
-    pub lists-step : {after-this : ℕ} → r ≡ At after-this → (after : List ℕ) (r₂ : Tape) →
+    pub lists-step : {after-this : ℕ} → r ≡ Ok after-this → (after : List ℕ) (r₂ : Tape) →
         Lists s (k + 1) cells₁ after r₂ (times (count - (k + 1)) (list_field s in_force) (cursor_at after-this 0 0)) →
         Lists s k cells after r₂ (times (count - k) (list_field s in_force) (cursor_at next 0 0))
     unfolding times continue
@@ -205,48 +221,48 @@ module _ (s : List ℕ) (count : ℕ) where
             let d : c ≡ cursor_at c.position 0 0 = cc in
             let d' : cursor_at after-this 0 0 ≡ c = ap (λ (x : ℕ). cursor_at x 0 0) p ∙ sym d in
             last l h.held.1 (times (count - (k + 1)) (list_field s in_force) c) (rw d' at rest)
-        go (refused i) h stays = let e = sym told ∙ h.held in clash (cc)
+        go (refused i) h stays = absurd (rw told at h.held)
 
 -- ---- Question 10
 
 module _ (s : List ℕ) (count : ℕ) {cells after : List ℕ} {r : Tape}
     (k : Lists s 0 cells after r (times count (list_field s in_force) beginning)) where
   -- the tape fails where one of its lists does
-  pub tape-stop : {n : ℕ} → r ≡ Refused n → Lists s 0 cells after (Refused n) (tape_of in_force s count beginning)
+  pub tape-stop : {d : Refusal} → r ≡ Err d → Lists s 0 cells after (Err d) (tape_of in_force s count beginning)
   unfolding tape_of continue
-  tape-stop {n} told = go (times count (list_field s in_force) beginning) k
+  tape-stop {d} told = go (times count (list_field s in_force) beginning) k
     where
       go : (P : Parsed (List (List ℕ))) → Lists s 0 cells after r P →
-          Lists s 0 cells after (Refused n) (continue P (λ t c. continue (at_end s 10 c) (λ u d. parsed t d)))
+          Lists s 0 cells after (Err d) (continue P (λ t c. continue (at_end s 10 c) (λ u e. parsed t e)))
       go (parsed t c) h = let e = sym told ∙ h.held.0 in clash (cc)
-      go (refused i) h = let e = sym told ∙ h.held in let f : n ≡ i = cc in record { held = ap Refused f }
+      go (refused i) h = record { held = rw told at h.held }
 
   -- question 10: bytes behind the last list
-  pub tape_long : {end : ℕ} → r ≡ At end → (end ≡ length s → ⊥) → Lists s 0 cells after (Refused 10) (tape_of in_force s count beginning)
+  pub tape_long : {end : ℕ} → r ≡ Ok end → (end ≡ length s → ⊥) → Lists s 0 cells after (Err TapeGoesOn) (tape_of in_force s count beginning)
   unfolding tape_of continue at_end ask
   tape_long {end} told long = go (times count (list_field s in_force) beginning) k
     where
       go : (P : Parsed (List (List ℕ))) → Lists s 0 cells after r P →
-          Lists s 0 cells after (Refused 10) (continue P (λ t c. continue (at_end s 10 c) (λ u d. parsed t d)))
+          Lists s 0 cells after (Err TapeGoesOn) (continue P (λ t c. continue (at_end s 10 c) (λ u d. parsed t d)))
       go (parsed t c) h =
           let e = sym told ∙ h.held.0 in
           let f : c.position ≡ end = cc in
           rw (f, ne_eqb end (length s) long) (record { held = refl })
-      go (refused i) h = let e = sym told ∙ h.held in clash (cc)
+      go (refused i) h = absurd (rw told at h.held)
 
   -- the tape ends with its last list
-  pub tape-kept : {end : ℕ} → r ≡ At end → end ≡ length s → Lists s 0 cells after (At end) (tape_of in_force s count beginning)
+  pub tape-kept : {end : ℕ} → r ≡ Ok end → end ≡ length s → Lists s 0 cells after (Ok end) (tape_of in_force s count beginning)
   unfolding tape_of continue at_end ask
   tape-kept {end} told whole = go (times count (list_field s in_force) beginning) k
     where
       go : (P : Parsed (List (List ℕ))) → Lists s 0 cells after r P →
-          Lists s 0 cells after (At end) (continue P (λ t c. continue (at_end s 10 c) (λ u d. parsed t d)))
+          Lists s 0 cells after (Ok end) (continue P (λ t c. continue (at_end s 10 c) (λ u d. parsed t d)))
       go (parsed t c) h =
           let e = sym told ∙ h.held.0 in
           let f : c.position ≡ end = cc in
           let g : eqb c.position (length s) ≡ true = eq-eqb c.position (length s) (f ∙ whole) in
-          rw g (record { held = (ap At (sym f), h.held.1) })
-      go (refused i) h = let e = sym told ∙ h.held in clash (cc)
+          rw g (record { held = (ap Ok (sym f), h.held.1) })
+      go (refused i) h = absurd (rw told at h.held)
 
 -- as many lists as the model has
 pub tape-length : (s : List ℕ) (count : ℕ) (tape : List (List ℕ)) (d : Cursor) → tape_of in_force s count beginning ≡ parsed tape d

@@ -1,13 +1,16 @@
 -- The whole model, pure: its three parts make it, and questions 6 and 7 are those of the machine.
 use Rattle.machine.specs.All.{ℕ, ◌≤◌, ◌<◌, arith, ◌≡◌, refl, ap, ◌∙◌, true, false, ◌&&◌, List, leb, leb-zero, length, eq-eqb, ne_eqb, le-leb, lt-leb, in_force, Cursor, Parsed, parsed, refused, continue, ask, BlockModel, model_fields, at_end, targets_move, well_formed, model_of_lem, beginning}
-use Rattle.constants.specs.declared.model.Model.{Model}
+use Rattle.std.specs.Prelude.{Ok, Err, IsErrAnd}
+use Rattle.std.proofs.lemmas.Result.{err_from_is_err_and}
+use Rattle.constants.specs.{declared.model.Model.Model, declared.refusals.Refusal.Refusal}
+use Rattle.constants.specs.declared.refusals.Refusal.TheVariants.{ModelGoesOn, IllFormed}
 use Rattle.layout.specs.All.{sum_numbers, header_of, block_numbers}
 use Rattle.parse_values.specs.{declared.Place.Place, Keeps.cursor_of, Filled.stored_rows, Filled.all_named, Shapes.sum_named}
 use Rattle.parse_values.proofs.Named.{values_name}
 use Rattle.program.specs.{Formed.placed_from, Formed.targets_from, Formed.joined_from, Shapes.capacities_of}
 use Rattle.program.proofs.{Steps.continue_assoc, Question.placed_machine, Question.targets_machine, Question.joined_machine}
-use Rattle.decode.specs.{declared.Header.Header, declared.Header.TheVariants.Read, declared.Header.TheVariants.Refused as NoHeader, declared.Decoded.TheVariants.Model as Accepted, declared.Decoded.TheVariants.Refused, Models.Models}
-use Rattle.decode.specs.{no_model, no_place, Stage, Servers, servers_field, with_servers, servers_shape, Things, things_field, with_things, things_shape, Program, program_field, program_shape, tables_of, ProperModel, model_shape}
+use Rattle.decode.specs.Models.{Decoded, Models}
+use Rattle.decode.specs.{no_model, no_place, Header, Stage, Servers, servers_field, with_servers, servers_shape, Things, things_field, with_things, things_shape, Program, program_field, program_shape, tables_of, ProperModel, model_shape}
 use Rattle.decode.proofs as our
 use our.Stages.{stage-known, stage-stop, stage_bind}
 use our.Represented.{capacities_stand, blocks_stand}
@@ -39,15 +42,15 @@ in_parts s c = simp continue_assoc
 
 module _ (s : List ℕ) {l l₁ : List ℕ} {r₁ : Header} (k₁ : Stage servers_shape no_model no_place l l₁ r₁ (servers_field s beginning)) where
   -- the header's servers fail a question
-  pub model-stop : {n : ℕ} (after : List ℕ) → r₁ ≡ NoHeader n
-      → Stage model_shape no_model no_place l after (NoHeader n) (model_fields s in_force beginning)
+  pub model-stop : {d : Refusal} (after : List ℕ) → r₁ ≡ Err d
+      → Stage model_shape no_model no_place l after (Err d) (model_fields s in_force beginning)
   model-stop after told = rw (← in_parts s beginning) (stage-stop (Stage _ _ _ _ _ _) _ _ k₁ told (record { held = refl }))
 
-  module _ {h₁ : Model} {p : Place} {l₂ : List ℕ} {r₂ : Header} (t₁ : r₁ ≡ Read h₁ p)
+  module _ {h₁ : Model} {p : Place} {l₂ : List ℕ} {r₂ : Header} (t₁ : r₁ ≡ Ok (h₁, p))
       (k₂ : Stage things_shape h₁ p l₁ l₂ r₂ (things_field s h₁ (cursor_of p))) where
     -- its queues, values or lists do
-    pub model-stop-2 : {n : ℕ} (after : List ℕ) → r₂ ≡ NoHeader n
-        → Stage model_shape no_model no_place l after (NoHeader n) (model_fields s in_force beginning)
+    pub model-stop-2 : {d : Refusal} (after : List ℕ) → r₂ ≡ Err d
+        → Stage model_shape no_model no_place l after (Err d) (model_fields s in_force beginning)
     model-stop-2 after told =
         rw (← in_parts s beginning)
         (stage_bind (Stage _ _ _ _ _ _) _ _ k₁ t₁
@@ -83,7 +86,7 @@ module _ (s : List ℕ) {l l₁ : List ℕ} {r₁ : Header} (k₁ : Stage server
     last a b h q l₃ r₃ (refused n) e named c₁ f₁ c₂ f₂ k = record { held = k.held }
 
     -- servers, things and program read one after the other are the model's fields
-    pub model-kept : {h₂ : Model} {q : Place} {l₃ : List ℕ} {r₃ : Header} → r₂ ≡ Read h₂ q →
+    pub model-kept : {h₂ : Model} {q : Place} {l₃ : List ℕ} {r₃ : Header} → r₂ ≡ Ok (h₂, q) →
         Stage program_shape h₂ q l₂ l₃ r₃ (program_field s h₂ (capacities_of h₂ l₂) (cursor_of q)) →
         Stage model_shape no_model no_place l l₃ r₃ (model_fields s in_force beginning)
     model-kept {h₂} {q} {l₃} {r₃} t₂ k₃ =
@@ -104,21 +107,26 @@ module _ (s : List ℕ) {l l₁ : List ℕ} {r₁ : Header} (k₁ : Stage server
 
 -- ---- Questions 6 and 7
 
+-- the refusal of a call is that of its caller
+pub model-passed : {after : List ℕ} {r : Decoded} {P : Parsed BlockModel} {d : Refusal} → IsErrAnd r (λ x. x ≡ d)
+    → Models after (Err d) P → Models after r P
+model-passed {r = r} given k = let e = err_from_is_err_and r given in rw (e.1, e.2) k
+
 module _ (s : List ℕ) {l after : List ℕ} {r : Header}
     (k : Stage model_shape no_model no_place l after r (model_fields s in_force beginning)) where
   -- a question of the fields comes before question 6
-  pub formed-stop : {n : ℕ} → r ≡ NoHeader n → Models after (Refused n) (model_of_lem in_force s beginning)
+  pub formed-stop : {d : Refusal} → r ≡ Err d → Models after (Err d) (model_of_lem in_force s beginning)
   unfolding model_of_lem
   formed-stop told = stage-stop (Models after _) _ _ k told (record { held = refl })
 
-  module _ {h : Model} {p : Place} (told : r ≡ Read h p) where
+  module _ {h : Model} {p : Place} (told : r ≡ Ok (h, p)) where
     pub few-blocks : h.blocks ≤ 256
     unfolding header_of
     few-blocks =
         stage-known (λ x. h.blocks ≤ 256) _ k told (λ m e n c f. let g = ap (λ (x : Model). x.blocks) e in omega (arith, f.blocks))
 
     -- question 6: bytes behind the last block
-    pub formed_long : (p.position ≡ length s → ⊥) → Models after (Refused 6) (model_of_lem in_force s beginning)
+    pub formed_long : (p.position ≡ length s → ⊥) → Models after (Err ModelGoesOn) (model_of_lem in_force s beginning)
     unfolding model_of_lem at_end ask continue
     formed_long long = stage_bind (Models after _) _ _ k told (λ m e n c f. rw (ne_eqb _ _ long) (record { held = refl }))
 
@@ -143,34 +151,34 @@ module _ (s : List ℕ) {l after : List ℕ} {r : Header}
 
       bad : (placed_from after h.blocks 0 true && targets_from after h.blocks h.blocks 0 && leb p.named
           h.blocks && joined_from after h.blocks 0 0) ≡ false →
-          Models after (Refused 7) (model_of_lem in_force s beginning)
+          Models after (Err IllFormed) (model_of_lem in_force s beginning)
       unfolding model_of_lem at_end ask continue
       bad b =
           stage_bind (Models after _) _ _ k told
           (λ m e n c f. rw (eq-eqb _ _ whole, asked m e n c f, b) (record { held = refl }))
 
       -- question 7: a GENERATE that is reached from above
-      pub formed_misplaced : placed_from after h.blocks 0 true ≡ false → Models after (Refused 7) (model_of_lem in_force s beginning)
+      pub formed_misplaced : placed_from after h.blocks 0 true ≡ false → Models after (Err IllFormed) (model_of_lem in_force s beginning)
       formed_misplaced a = bad (rw a)
 
       module _ (a : placed_from after h.blocks 0 true ≡ true) where
         -- question 7: a target that is a GENERATE or lies inside a group
-        pub formed-target : targets_from after h.blocks h.blocks 0 ≡ false → Models after (Refused 7) (model_of_lem in_force s beginning)
+        pub formed-target : targets_from after h.blocks h.blocks 0 ≡ false → Models after (Err IllFormed) (model_of_lem in_force s beginning)
         formed-target b = bad (rw (a, b))
 
         module _ (b : targets_from after h.blocks h.blocks 0 ≡ true) where
           -- question 7: a value names a block that is not there
-          pub formed_name : h.blocks < p.named → Models after (Refused 7) (model_of_lem in_force s beginning)
+          pub formed_name : h.blocks < p.named → Models after (Err IllFormed) (model_of_lem in_force s beginning)
           formed_name d = bad (rw (a, b, lt-leb _ _ d))
 
           module _ (d : p.named ≤ h.blocks) where
             -- question 7: a back count that reaches out of its WAITIFs
-            pub formed-broken : joined_from after h.blocks 0 0 ≡ false → Models after (Refused 7) (model_of_lem in_force s beginning)
+            pub formed-broken : joined_from after h.blocks 0 0 ≡ false → Models after (Err IllFormed) (model_of_lem in_force s beginning)
             formed-broken g = bad (rw (a, b, le-leb _ _ d, g))
 
             -- every part of question 7 is answered: the model is accepted
-            pub formed-model : joined_from after h.blocks 0 0 ≡ true → Models after (Accepted h) (model_of_lem in_force s beginning)
+            pub formed-model : joined_from after h.blocks 0 0 ≡ true → Models after (Ok h) (model_of_lem in_force s beginning)
             unfolding model_of_lem at_end ask continue
             formed-model g =
                 stage_bind (Models after _) _ _ k told
-                (λ m e n c f. rw (eq-eqb _ _ whole, asked m e n c f, a, b, le-leb _ _ d, g) (record { held = (ap Accepted e, c, f) }))
+                (λ m e n c f. rw (eq-eqb _ _ whole, asked m e n c f, a, b, le-leb _ _ d, g) (record { held = (ap Ok e, c, f) }))

@@ -1,85 +1,65 @@
 -- The parts of a model, pure: from what each call kept to what the part keeps.
-use Rattle.machine.specs.All.{clash, ℕ, suc, ◌+◌, ◌-◌, ◌≤◌, ◌<◌, arith, ◌≡◌, refl, sym, ap, ◌∙◌, List, [], replicate, set, sets, Parsed, parsed, refused, Parser, continue, field, times, in_force, value_fields, block_field, value_field}
-use Rattle.constants.specs.declared.model.Model.{Model}
-use Rattle.parse_values.specs.{declared.Place.Place, declared.Taken.Taken, declared.Taken.TheVariants.Number, declared.Stored.Stored, declared.Stored.TheVariants.Done, declared.Stored.TheVariants.Refused as NotStored, Filled.Filled, Shapes.value_shape, Shapes.ProperValue}
+use Rattle.machine.specs.All.{clash, ℕ, ◌+◌, ◌≡◌, refl, sym, ap, ◌∙◌, List, [], replicate, sets, Parsed, parsed, refused, Parser, continue, field, times, in_force, value_fields, block_field, value_field}
+use Rattle.std.specs.Prelude.{Ok, Err, IsErrAnd}
+use Rattle.std.proofs.lemmas.Result.{err_from_is_err_and}
+use Rattle.constants.specs.{declared.model.Model.Model, declared.refusals.Refusal.Refusal, Numbers.refusal_number}
+use Rattle.parse_values.specs.{declared.Place.Place, Keeps.Taken, Keeps.Stored, Filled.Filled, Shapes.value_shape, Shapes.ProperValue}
 use Rattle.parse_values.specs.Keeps.{cursor_of, place_of, Takes, plain_shape, number_shape}
 use Rattle.parse_values.proofs.Binds.{takes_bind}
 use Rattle.parse_values.proofs.Filled.{times-rows, values-rows, rows_end, rows_bind, rows-length, unnamed}
 use Rattle.program.specs.{Formed.Formed, Shapes.block_shape, Shapes.capacities_of}
-use Rattle.decode.specs.{declared.Header.Header, declared.Header.TheVariants.Read, declared.Header.TheVariants.Refused}
-use Rattle.decode.specs.{empty_tables, Capacity, no_model, StageShape, Stage, servers_field, servers_shape, seen_by_values, things_field, things_shape, seen_by_blocks, program_field, program_shape}
-
--- ---- Facilities
-
-module _ (count v : ℕ) (l l₀ : List ℕ) where
-  -- the loop that stores capacity 1 for each facility: before it,
-  pub ones-begin : sets l₀ (2560 + 0) (replicate (count - 0) 1) ≡ sets l₀ 2560 (replicate count 1)
-  ones-begin = let e : count - 0 ≡ count = omega arith in rw e
-
-  -- one facility,
-  pub ones_step : v < count → sets l (2560 + v) (replicate (count - v) 1) ≡ sets l₀ 2560 (replicate count 1) →
-      sets (set l (2560 + v) 1) (2560 + (v + 1)) (replicate (count - (v + 1)) 1) ≡ sets l₀ 2560 (replicate count 1)
-  ones_step h inv =
-      let e : count - v ≡ suc (count - (v + 1)) = omega arith in
-      let f : 2560 + (v + 1) ≡ suc (2560 + v) = omega arith in
-      rw f (rw e at inv)
-
-  -- and behind it
-  pub ones-end : count ≤ v → sets l (2560 + v) (replicate (count - v) 1) ≡ sets l₀ 2560 (replicate count 1)
-      → l ≡ sets l₀ 2560 (replicate count 1)
-  ones-end h inv = let e : count - v ≡ 0 = omega arith in rw e at inv
+use Rattle.decode.specs.{empty_tables, Capacity, no_model, Header, StageShape, Stage, servers_field, servers_shape, seen_by_values, things_field, things_shape, seen_by_blocks, program_field, program_shape}
 
 -- ---- A part that was refused, or read
 
 module _ {A : Type 0} {sh : StageShape A} {m : Model} {p : Place} {cells after : List ℕ} {r : Header} where
   -- a stage that stops gives the parser's refusal
-  pub stage-refused : (P : Parsed A) {n : ℕ} → Stage sh m p cells after r P → r ≡ Refused n → P ≡ refused n
+  pub stage-refused : (P : Parsed A) {d : Refusal} → Stage sh m p cells after r P → r ≡ Err d → P ≡ refused (refusal_number d)
   stage-refused (parsed a c) k told = let e = sym told ∙ k.held.0 in clash (cc)
-  stage-refused (refused i) {n} k told = let e = sym told ∙ k.held in let f : i ≡ n = cc in ap refused f
+  stage-refused (refused i) k told = ap refused (sym (rw told at k.held))
 
   -- what was read
-  pub stage-known : (G : Parsed A → Type 0) (P : Parsed A) {h : Model} {q : Place} → Stage sh m p cells after r P → r ≡ Read h q →
+  pub stage-known : (G : Parsed A → Type 0) (P : Parsed A) {h : Model} {q : Place} → Stage sh m p cells after r P → r ≡ Ok (h, q) →
       ((a : A) → h ≡ sh.header m a → q.named ≡ sh.named p.named a → after ≡ sh.cells m a cells → sh.fact m a
       → G (parsed a (cursor_of q))) → G P
   stage-known G (parsed a c) {h} {q} k told g =
       let e = sym told ∙ k.held.0 in
-      let eh : h ≡ sh.header m a = cc in
-      let eq : q ≡ place_of c (sh.named p.named a) = cc in
+      let same : ◌≡◌ {A = Model × Place} (h, q) (sh.header m a, place_of c (sh.named p.named a)) = cc in
+      let eh : h ≡ sh.header m a = ap (λ (x : Model × Place). x.0) same in
+      let eq : q ≡ place_of c (sh.named p.named a) = ap (λ (x : Model × Place). x.1) same in
       (rw eq at (g a eh)) refl k.held.1 k.held.2
-  stage-known G (refused i) {h} {q} k told g = let e = sym told ∙ k.held in clash (cc)
+  stage-known G (refused i) k told g = absurd (rw told at k.held)
 
   module _ {B : Type 0} (G : Parsed B → Type 0) where
     -- so what follows it in the parser is refused too
-    pub stage-stop : (P : Parsed A) (f : A → Parser B) {n : ℕ} → Stage sh m p cells after r P → r ≡ Refused n → G (refused n)
-        → G (continue P f)
+    pub stage-stop : (P : Parsed A) (f : A → Parser B) {d : Refusal} → Stage sh m p cells after r P → r ≡ Err d
+        → G (refused (refusal_number d)) → G (continue P f)
     unfolding continue
     stage-stop P f k told s = rw (stage-refused P k told) s
 
     -- a stage that is read hands its value and its place to what follows
-    pub stage_bind : (P : Parsed A) (f : A → Parser B) {h : Model} {q : Place} → Stage sh m p cells after r P → r ≡ Read h q →
+    pub stage_bind : (P : Parsed A) (f : A → Parser B) {h : Model} {q : Place} → Stage sh m p cells after r P → r ≡ Ok (h, q) →
         ((a : A) → h ≡ sh.header m a → q.named ≡ sh.named p.named a → after ≡ sh.cells m a cells → sh.fact m a
         → G (f a (cursor_of q))) →
         G (continue P f)
     unfolding continue
     stage_bind P f k told g = stage-known (λ x. G (continue x f)) P k told g
 
-pub no_header : {n : ℕ} {h : Model} {q : Place} → Refused n ≡ Read h q → ⊥
-no_header {n} {h} {q} e = clash (cc)
-
--- what is known of the header that was read is known of the one that is answered
-pub same-header : {h k : Model} {p q : Place} (G : Model → Type 0) → G h → Read h p ≡ Read k q → G k
-same-header {h} {k} {p} {q} G g e = let f : h ≡ k = cc in rw (← f) g
+-- the refusal of a call is that of its caller
+pub stage-passed : {A : Type 0} {sh : StageShape A} {m : Model} {p : Place} {cells after : List ℕ} {r : Header} {P : Parsed A} {d : Refusal} →
+    IsErrAnd r (λ x. x ≡ d) → Stage sh m p cells after (Err d) P → Stage sh m p cells after r P
+stage-passed {r = r} given k = let e = err_from_is_err_and r given in rw (e.1, e.2) k
 
 -- ---- Servers
 
 module _ (s : List ℕ) {p a b d : Place} {v f n : ℕ} {r₁ r₂ r₃ : Taken} {r₄ : Stored} (l : List ℕ) {l₁ l₂ l₃ : List ℕ} (e : Model)
-    (k₁ : Takes (plain_shape 1 2) p 0 [] [] r₁ (field s 3 1 2 (cursor_of p))) (t₁ : r₁ ≡ Number v a)
-    (k₂ : Takes (plain_shape 0 32) a 0 [] [] r₂ (field s 3 0 32 (cursor_of a))) (t₂ : r₂ ≡ Number f b)
-    (k₃ : Takes (plain_shape 0 32) b 0 [] [] r₃ (field s 3 0 32 (cursor_of b))) (t₃ : r₃ ≡ Number n d)
+    (k₁ : Takes (plain_shape 1 2) p 0 [] [] r₁ (field s 3 1 2 (cursor_of p))) (t₁ : r₁ ≡ Ok (v, a))
+    (k₂ : Takes (plain_shape 0 32) a 0 [] [] r₂ (field s 3 0 32 (cursor_of a))) (t₂ : r₂ ≡ Ok (f, b))
+    (k₃ : Takes (plain_shape 0 32) b 0 [] [] r₃ (field s 3 0 32 (cursor_of b))) (t₃ : r₃ ≡ Ok (n, d))
     (cleared : l₁ ≡ empty_tables v) (ones : l₂ ≡ sets l₁ 2560 (replicate f 1))
     (k₄ : Filled (number_shape 1 65535 1) Capacity 1 (2560 + f) d l₂ l₃ r₄ (times n (field s 3 1 65535) (cursor_of d))) where
   -- a capacity fails its question
-  pub servers-stop : {m : ℕ} → r₄ ≡ NotStored m → Stage servers_shape no_model p l l₃ (Refused m) (servers_field s (cursor_of p))
+  pub servers-stop : {x : Refusal} → r₄ ≡ Err x → Stage servers_shape no_model p l l₃ (Err x) (servers_field s (cursor_of p))
   unfolding servers_field
   servers-stop told =
       takes_bind (Stage _ _ _ _ _ _) _ _ k₁ t₁
@@ -89,17 +69,20 @@ module _ (s : List ℕ) {p a b d : Place} {v f n : ℕ} {r₁ r₂ r₃ : Taken}
       takes_bind (Stage _ _ _ _ _ _) _ _ k₃ t₃ (λ n₃ c₃ f₃. rows_end (Stage _ _ _ _ _ _) _ _ k₄ told (record { held = refl }))))
 
   -- facilities, storages and capacities are the servers' part of the header
-  pub servers-kept : {q : Place} → r₄ ≡ Done q → (e.queues ≡ 0) × (e.values ≡ 0) × (e.lists ≡ 0) × (e.counter ≡ 0) × (e.blocks ≡ 0) →
+  pub servers-kept : {q : Place} → r₄ ≡ Ok q → (e.queues ≡ 0) × (e.values ≡ 0) × (e.lists ≡ 0) × (e.counter ≡ 0) × (e.blocks ≡ 0) →
       Stage servers_shape no_model p l l₃
-      (Read (record {
-        facilities = f;
-        storages = n;
-        queues = e.queues;
-        values = e.values;
-        lists = e.lists;
-        counter = e.counter;
-        blocks = e.blocks;
-      }) q)
+      (Ok (
+        record {
+          facilities = f;
+          storages = n;
+          queues = e.queues;
+          values = e.values;
+          lists = e.lists;
+          counter = e.counter;
+          blocks = e.blocks;
+        },
+        q,
+      ))
       (servers_field s (cursor_of p))
   unfolding servers_field
   servers-kept {q} told z =
@@ -114,9 +97,10 @@ module _ (s : List ℕ) {p a b d : Place} {v f n : ℕ} {r₁ r₂ r₃ : Taken}
       record {
         held = (
           (λ i.
-              Read
-              (record { facilities = f; storages = n; queues = z.0 i; values = z.1 i; lists = z.2 i; counter = z.3 i; blocks = z.4 i })
-              (place_of (cursor_of q) ((n₄ ∙ unnamed d.named caps ∙ n₃ ∙ n₂ ∙ n₁) i))),
+              Ok (
+                record { facilities = f; storages = n; queues = z.0 i; values = z.1 i; lists = z.2 i; counter = z.3 i; blocks = z.4 i },
+                place_of (cursor_of q) ((n₄ ∙ unnamed d.named caps ∙ n₃ ∙ n₂ ∙ n₁) i),
+              )),
           cc (c₄, ones, cleared),
           record {
             facilities = f₂.1;
@@ -130,27 +114,30 @@ module _ (s : List ℕ) {p a b d : Place} {v f n : ℕ} {r₁ r₂ r₃ : Taken}
 -- ---- Queues and values
 
 module _ (s : List ℕ) (m : Model) {p a b : Place} {queues n : ℕ} {r₁ r₂ : Taken} {r₃ : Stored} {l l₁ : List ℕ}
-    (k₁ : Takes (plain_shape 0 32) p 0 [] [] r₁ (field s 3 0 32 (cursor_of p))) (t₁ : r₁ ≡ Number queues a)
-    (k₂ : Takes (plain_shape 0 8) a 0 [] [] r₂ (field s 3 0 8 (cursor_of a))) (t₂ : r₂ ≡ Number n b)
+    (k₁ : Takes (plain_shape 0 32) p 0 [] [] r₁ (field s 3 0 32 (cursor_of p))) (t₁ : r₁ ≡ Ok (queues, a))
+    (k₂ : Takes (plain_shape 0 8) a 0 [] [] r₂ (field s 3 0 8 (cursor_of a))) (t₂ : r₂ ≡ Ok (n, b))
     (k₃ : Filled value_shape ProperValue 64 2048 b l l₁ r₃ (value_fields s (seen_by_values m queues) n 0 (cursor_of b))) where
   -- a value fails its question
-  pub things-stop : {i : ℕ} → r₃ ≡ NotStored i → Stage things_shape m p l l₁ (Refused i) (things_field s m (cursor_of p))
+  pub things-stop : {d : Refusal} → r₃ ≡ Err d → Stage things_shape m p l l₁ (Err d) (things_field s m (cursor_of p))
   unfolding things_field
   things-stop told =
       takes_bind (Stage _ _ _ _ _ _) _ _ k₁ t₁
       (λ n₁ c₁ f₁. takes_bind (Stage _ _ _ _ _ _) _ _ k₂ t₂ (λ n₂ c₂ f₂. rows_end (Stage _ _ _ _ _ _) _ _ k₃ told (record { held = refl })))
 
-  pub things-kept : {q : Place} → r₃ ≡ Done q →
+  pub things-kept : {q : Place} → r₃ ≡ Ok q →
       Stage things_shape m p l l₁
-      (Read (record {
-        facilities = m.facilities;
-        storages = m.storages;
-        queues = queues;
-        values = n;
-        lists = m.lists;
-        counter = m.counter;
-        blocks = m.blocks;
-      }) q)
+      (Ok (
+        record {
+          facilities = m.facilities;
+          storages = m.storages;
+          queues = queues;
+          values = n;
+          lists = m.lists;
+          counter = m.counter;
+          blocks = m.blocks;
+        },
+        q,
+      ))
       (things_field s m (cursor_of p))
   unfolding things_field
   things-kept {q} told =
@@ -178,13 +165,13 @@ module _ (s : List ℕ) (m : Model) {p a b : Place} {queues n : ℕ} {r₁ r₂ 
 -- ---- Lists, counter and blocks
 
 module _ (s : List ℕ) (m : Model) {p a b d : Place} {lists counter n : ℕ} {r₁ r₂ r₃ : Taken} {r₄ : Stored} {l l₁ : List ℕ}
-    (k₁ : Takes (plain_shape 0 16) p 0 [] [] r₁ (field s 3 0 16 (cursor_of p))) (t₁ : r₁ ≡ Number lists a)
-    (k₂ : Takes (plain_shape 1 65535) a 0 [] [] r₂ (field s 3 1 65535 (cursor_of a))) (t₂ : r₂ ≡ Number counter b)
-    (k₃ : Takes (plain_shape 1 256) b 0 [] [] r₃ (field s 3 1 256 (cursor_of b))) (t₃ : r₃ ≡ Number n d)
+    (k₁ : Takes (plain_shape 0 16) p 0 [] [] r₁ (field s 3 0 16 (cursor_of p))) (t₁ : r₁ ≡ Ok (lists, a))
+    (k₂ : Takes (plain_shape 1 65535) a 0 [] [] r₂ (field s 3 1 65535 (cursor_of a))) (t₂ : r₂ ≡ Ok (counter, b))
+    (k₃ : Takes (plain_shape 1 256) b 0 [] [] r₃ (field s 3 1 256 (cursor_of b))) (t₃ : r₃ ≡ Ok (n, d))
     (k₄ : Filled (block_shape n) (Formed n) 8 0 d l l₁ r₄
     (times n (block_field s in_force.kinds (seen_by_blocks m lists n) (capacities_of m l)) (cursor_of d))) where
   -- a block fails its question
-  pub program-stop : {i : ℕ} → r₄ ≡ NotStored i → Stage program_shape m p l l₁ (Refused i) (program_field s m (capacities_of m l) (cursor_of p))
+  pub program-stop : {x : Refusal} → r₄ ≡ Err x → Stage program_shape m p l l₁ (Err x) (program_field s m (capacities_of m l) (cursor_of p))
   unfolding program_field
   program-stop told =
       takes_bind (Stage _ _ _ _ _ _) _ _ k₁ t₁
@@ -193,17 +180,20 @@ module _ (s : List ℕ) (m : Model) {p a b d : Place} {lists counter n : ℕ} {r
       (λ n₂ c₂ f₂.
       takes_bind (Stage _ _ _ _ _ _) _ _ k₃ t₃ (λ n₃ c₃ f₃. rows_end (Stage _ _ _ _ _ _) _ _ k₄ told (record { held = refl }))))
 
-  pub program-kept : {q : Place} → r₄ ≡ Done q →
+  pub program-kept : {q : Place} → r₄ ≡ Ok q →
       Stage program_shape m p l l₁
-      (Read (record {
-        facilities = m.facilities;
-        storages = m.storages;
-        queues = m.queues;
-        values = m.values;
-        lists = lists;
-        counter = counter;
-        blocks = n;
-      }) q)
+      (Ok (
+        record {
+          facilities = m.facilities;
+          storages = m.storages;
+          queues = m.queues;
+          values = m.values;
+          lists = lists;
+          counter = counter;
+          blocks = n;
+        },
+        q,
+      ))
       (program_field s m (capacities_of m l) (cursor_of p))
   unfolding program_field
   program-kept {q} told =

@@ -1,13 +1,14 @@
--- What decoding gives, by cases on the machine's answer to the questions: the number of the first "no"; or the header of the
+-- What decoding gives, by cases on the machine's answer to the questions: the refusal with the number of the first "no"; or the header of the
 -- model, with tables and list cells that represent model and tape.
-use Rattle.std.specs.Prelude.{◌≡◌}
+use Rattle.std.specs.Prelude.{◌≡◌, Ok}
 use Rattle.machine.specs.All.{ℕ, List, Validation, accept, reject}
 use Rattle.layout.specs.All.{header_of, Represents}
-use Rattle.decode.specs.{declared.Decoded.Decoded, declared.Decoded.TheVariants.Model as Accepted, declared.Decoded.TheVariants.Refused}
+use Rattle.parse_values.specs.Keeps.{Refuses}
+use Rattle.decode.specs.Models.{Decoded}
 
 abbrev pub Decodes : (tape_bytes : List ℕ) → Decoded → (tables lists : List ℕ) → Validation → Type 0
-Decodes tape_bytes r tables lists (accept m tape) = (r ≡ Accepted (header_of m)) × Represents m tape tape_bytes tables lists
-Decodes tape_bytes r tables lists (reject n) = r ≡ Refused n
+Decodes tape_bytes r tables lists (accept m tape) = (r ≡ Ok (header_of m)) × Represents m tape tape_bytes tables lists
+Decodes tape_bytes r tables lists (reject n) = Refuses r n
 
 -- the number alone, 0 for a model and tape that are accepted
 unfoldable pub refusal_of : Validation → ℕ

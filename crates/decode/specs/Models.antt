@@ -1,12 +1,13 @@
 -- The whole model: its cells of the tables, and the answer to questions 3 to 7.
-use Rattle.std.specs.Prelude.{◌≤◌, ◌≡◌}
+use Rattle.std.specs.Prelude.{◌≤◌, ◌≡◌, Result, Ok}
+use Rattle.constants.specs.{declared.model.Model.Model, declared.refusals.Refusal.Refusal}
 use Rattle.machine.specs.All.{ℕ, List, length, in_force, Parsed, parsed, refused, BlockModel}
 use Rattle.machine.specs.Limits as Limits
 use Rattle.layout.specs.Layout as Layout
 use Rattle.layout.specs.All.{sum_numbers, block_numbers, header_of}
-use Rattle.parse_values.specs.{Filled.stored_rows, Filled.all_named, Filled.Each, Shapes.sum_named, Shapes.ProperValue}
+use Rattle.parse_values.specs.{Keeps.Refuses, Filled.stored_rows, Filled.all_named, Filled.Each, Shapes.sum_named, Shapes.ProperValue}
 use Rattle.program.specs.Formed.{Formed}
-use Rattle.decode.specs.{declared.Decoded.Decoded, declared.Decoded.TheVariants.Model as Accepted, declared.Decoded.TheVariants.Refused, Stages.Capacity, Stages.StageShape, Stages.servers_cells}
+use Rattle.decode.specs.{Stages.Capacity, Stages.StageShape, Stages.servers_cells}
 
 -- all cells of the tables
 unfoldable pub tables_of : BlockModel → List ℕ
@@ -36,9 +37,13 @@ model_shape =
       fact = λ h m. ProperModel m;
     }
 
+-- what decoding gives: the header of the model, or the refusal of the first question answered "no"
+abbrev pub Decoded : Type 0
+Decoded = Result Model Refusal
+
 abbrev pub HeldModel : List ℕ → Decoded → Parsed BlockModel → Type 0
-HeldModel after r (parsed m c) = (r ≡ Accepted (header_of m)) × (after ≡ tables_of m) × ProperModel m
-HeldModel after r (refused n) = r ≡ Refused n
+HeldModel after r (parsed m c) = (r ≡ Ok (header_of m)) × (after ≡ tables_of m) × ProperModel m
+HeldModel after r (refused n) = Refuses r n
 
 pub record Models (after : List ℕ) (r : Decoded) (P : Parsed BlockModel) : Type 0 where
   pub held : HeldModel after r P

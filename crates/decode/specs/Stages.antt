@@ -1,13 +1,12 @@
 -- A model read in three parts, each with its header and its cells of the tables.
-use Rattle.std.specs.Prelude.{◌+◌, ◌≤◌, ◌≡◌}
+use Rattle.std.specs.Prelude.{◌+◌, ◌≤◌, ◌≡◌, Result, Ok}
 use Rattle.machine.specs.All.{ℕ, List, length, set, replicate, sets, Parsed, parsed, refused, Parser, continue, field, times, Sum, Block, in_force, Counts, value_fields, block_field}
 use Rattle.machine.specs.Limits as Limits
-use Rattle.constants.specs.declared.model.Model.{Model}
+use Rattle.constants.specs.{declared.model.Model.Model, declared.refusals.Refusal.Refusal}
 use Rattle.layout.specs.Layout as Layout
 use Rattle.layout.specs.All.{sum_numbers, block_numbers}
-use Rattle.parse_values.specs.{declared.Place.Place, Keeps.place_of, Keeps.number_shape, Filled.stored_rows, Filled.all_named, Filled.Each, Shapes.sum_named, Shapes.ProperValue}
+use Rattle.parse_values.specs.{declared.Place.Place, Keeps.Refuses, Keeps.place_of, Keeps.number_shape, Filled.stored_rows, Filled.all_named, Filled.Each, Shapes.sum_named, Shapes.ProperValue}
 use Rattle.program.specs.Formed.{Formed}
-use Rattle.decode.specs.{declared.Header.Header, declared.Header.TheVariants.Read, declared.Header.TheVariants.Refused}
 
 -- the tables of a model of which its edition is known
 unfoldable pub empty_tables : (edition : ℕ) → List ℕ
@@ -25,6 +24,10 @@ no_place = record { position = 0; numbers = 0; mentions = 0; named = 0 }
 
 -- ---- A part of the model
 
+-- what reading it gives: the header so far, and where reading stands
+abbrev pub Header : Type 0
+Header = Result (Model × Place) Refusal
+
 -- the header with it, the largest block that it names besides those before, its cells, and what is known of it
 pub record StageShape (A : Type 0) : Type 1 where
   pub header : Model → A → Model
@@ -34,8 +37,8 @@ pub record StageShape (A : Type 0) : Type 1 where
 
 abbrev pub HeldStage : {A : Type 0} → StageShape A → Model → Place → (cells after : List ℕ) → Header → Parsed A → Type 0
 HeldStage sh m p cells after r (parsed a c) =
-    (r ≡ Read (sh.header m a) (place_of c (sh.named p.named a))) × (after ≡ sh.cells m a cells) × sh.fact m a
-HeldStage sh m p cells after r (refused n) = r ≡ Refused n
+    (r ≡ Ok (sh.header m a, place_of c (sh.named p.named a))) × (after ≡ sh.cells m a cells) × sh.fact m a
+HeldStage sh m p cells after r (refused n) = Refuses r n
 
 pub record Stage {A : Type 0} (sh : StageShape A) (m : Model) (p : Place) (cells after : List ℕ) (r : Header) (P : Parsed A) : Type 0 where
   pub held : HeldStage sh m p cells after r P

@@ -1,74 +1,89 @@
 // "Before each turn, in this order: .." the end of the turn before, dry, the limits on serials and turns, the budget, the room
 // for a record.
+ghost use Rattle.constants.specs.Numbers.{end_number};
+ghost use Rattle.state.specs.All.{put_turns, put_end};
+ghost use Rattle.state.specs.Notes.{end_or_0};
 ghost use Rattle.std.specs.Prelude.{◌≡◌};
 ghost use Rattle.rows_laws.specs.All.{Room};
 ghost use Rattle.engine_laws.specs.Ends.{nobody_rows, worn_rows, full_rows, limit_rows, end_rows};
 
-use constants::Model;
-use constants::ends::{BUDGET, DRY, TRACE_FULL, WORN_OUT};
+use constants::{End, Model};
 use rows::lists::first;
-use rows::{FEL, REL, ROWS};
-use state::Scalars;
+use rows::{Chain, Work};
+use state::{Mover, Scalars, Stopped};
 
 // Nobody moves, and REL and FEL are empty.
-fn nobody_left(work: &[u32], moving: u32) -> bool
-    requires { Room work.now }
+fn nobody_left(work: &Work, moving: Mover) -> bool
     ensures { result ≡ nobody_rows work.now moving }
 {
-    if moving < ROWS {
+    if let Some(_) = moving.row() {
         return false;
     }
-    if first(work, REL) < ROWS {
+    if let Some(_) = first(work, Chain::REL) {
         return false;
     }
-    ROWS <= first(work, FEL)
+    match first(work, Chain::FEL) {
+        Some(_) => false,
+        None => true,
+    }
 }
 
 // "Last serial given above 99,997,952, or 100,000,000 turns done"
-fn worn_out(x: Scalars) -> bool
-    ensures { result ≡ worn_rows x }
+fn worn_out(x: &Scalars) -> bool
+    ensures { result ≡ worn_rows x.now }
 {
-    if Model::MAX_SERIAL < x.serial {
-        return true;
-    }
-    Model::MAX_TURNS <= x.turns
+    Model::MAX_SERIAL < x.serial || Model::MAX_TURNS <= x.turns
 }
 
 // "Fewer than 12 bytes left in the trace"
 fn trace_full(used: usize, room: usize) -> bool
     ensures { result ≡ full_rows used room }
 {
-    if room < Model::RECORD_ROOM {
-        return true;
-    }
-    room - Model::RECORD_ROOM < used
+    room < Model::RECORD_ROOM || room - Model::RECORD_ROOM < used
 }
 
-fn limit(x: Scalars, budget: u64, room: usize) -> u32
-    ensures { result ≡ limit_rows x budget room }
+fn limit(x: &Scalars, budget: u64, room: usize) -> Option<End>
+    ensures { end_or_0 result ≡ limit_rows x.now budget room }
 {
     if worn_out(x) {
-        return WORN_OUT;
+        return Some(End::WornOut);
     }
     if budget <= x.turns as u64 {
-        return BUDGET;
+        return Some(End::Budget);
     }
     if trace_full(x.used, room) {
-        return TRACE_FULL;
+        return Some(End::TraceFull);
     }
-    0
+    None
 }
 
-// The number of the end before the next turn, 0 for none.
-pub fn end_before(work: &[u32], x: Scalars, budget: u64, room: usize) -> u32
-    requires { Room work.now }
-    ensures { result ≡ end_rows work.now x budget room }
+// The end before the next turn, if there is one.
+pub fn end_before(work: &Work, x: &Scalars, budget: u64, room: usize) -> Option<End>
+    ensures { end_or_0 result ≡ end_rows work.now x.now budget room }
 {
-    if x.end != 0 {
-        return x.end;
+    if let Some(end) = x.end.end() {
+        return Some(end);
     }
     if nobody_left(work, x.moving) {
-        return DRY;
+        return Some(End::Dry);
     }
     limit(x, budget, room)
+}
+
+// The scalars with so many turns done.
+pub fn after(x: Scalars, turns: u32) -> Scalars
+    ensures { result ≡ put_turns turns x }
+{
+    let mut y = x;
+    y.turns = turns;
+    y
+}
+
+// The scalars with an end.
+pub fn close(x: Scalars, end: End) -> Scalars
+    ensures { result ≡ put_end (end_number end) x }
+{
+    let mut y = x;
+    y.end = Stopped::at(end);
+    y
 }

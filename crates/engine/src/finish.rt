@@ -1,4 +1,6 @@
 // The results of a run.
+ghost use Rattle.constants.specs.Numbers.{refusal_number};
+ghost use Rattle.state.specs.Notes.{end_or_0};
 ghost use Rattle.std.specs.Prelude.{◌≡◌, ◌≤◌};
 ghost use Rattle.machine.specs.All.{length, max_blocks, max_facilities};
 ghost use Rattle.rows_laws.specs.All.{Room};
@@ -11,19 +13,20 @@ ghost use Rattle.engine_laws.specs.Turns.{turns_rows};
 ghost use Rattle.engine_laws.specs.Last.{refused_with, ended_with, last_rows, Finishes};
 
 use crate::steps::turns;
-use constants::Model;
+use constants::{End, Model, Refusal};
 use engine_laws::Outcome;
 use layout::{LIST_CELLS, TABLES, TALLY};
 use report::write_report;
+use rows::Work;
 use start::begin;
 use state::Scalars;
 
 // "the refusal number listed for it, all other results zero"
-pub fn refused(n: u32) -> Outcome
-    ensures { result ≡ refused_with n }
+pub fn refused(r: Refusal) -> Outcome
+    ensures { result ≡ refused_with (refusal_number r) }
 {
     Outcome {
-        refusal: n as u64,
+        refusal: r.number() as u64,
         end: 0,
         clock: 0,
         turns: 0,
@@ -34,12 +37,22 @@ pub fn refused(n: u32) -> Outcome
     }
 }
 
+// The number of an end, 0 for none.
+fn number_or_0(end: Option<End>) -> u32
+    ensures { result ≡ end_or_0 end }
+{
+    match end {
+        Some(end) => end.number(),
+        None => 0,
+    }
+}
+
 fn ended(x: Scalars, report_bytes: usize) -> Outcome
     ensures { result ≡ ended_with x report_bytes }
 {
     Outcome {
         refusal: 0,
-        end: x.end as u64,
+        end: number_or_0(x.end.end()) as u64,
         clock: x.clock,
         turns: x.turns as u64,
         made: x.made as u64,
@@ -56,13 +69,12 @@ fn play(
     lists: &[u64],
     tape: &[u8],
     budget: u64,
-    work: &mut [u32],
+    work: &mut Work,
     tally: &mut [u64; TALLY],
     trace: &mut [u8],
 ) -> Scalars
     requires facilities_le_max_facilities { model.facilities ≤ max_facilities }
     requires blocks_le_max_blocks { model.blocks ≤ max_blocks }
-    requires room { Room work.old }
     ensures { traced (rows_of result work.new tally.new) trace.new
         ≡ turns_rows model tables.now tape.now budget (length trace.old)
         (traced (start_rows model tables.now tape.now lists.now work.old tally.old)
@@ -77,15 +89,14 @@ fn reported(
     model: Model,
     tables: &[u32; TABLES],
     tally: &[u64; TALLY],
-    work: &[u32],
-    x: Scalars,
+    work: &Work,
+    x: &Scalars,
     report: &mut [u8],
 ) -> usize
-    requires { Room work.now }
-    ensures { written result report.new ≡ put_all (row_numbers model tables.now tally.now work.now x)
+    ensures { written result report.new ≡ put_all (row_numbers model tables.now tally.now work.now x.now)
         (written 0 report.old) }
 {
-    write_report(model, tables, tally, work, x, report)
+    write_report(model, tables, tally, work, *x, report)
 }
 
 // A run of a decoded model: the turns, then the report.
@@ -95,19 +106,18 @@ pub fn accepted(
     lists: &[u64; LIST_CELLS],
     tape: &[u8],
     budget: u64,
-    work: &mut [u32],
+    work: &mut Work,
     trace: &mut [u8],
     report: &mut [u8],
 ) -> Outcome
     requires facilities_le_max_facilities { model.facilities ≤ max_facilities }
     requires blocks_le_max_blocks { model.blocks ≤ max_blocks }
-    requires room { Room work.old }
     ensures { Finishes model tables.now
         (last_rows model tables.now lists.now tape.now budget work.old trace.old)
         report.old result trace.new report.new }
 {
     let mut tally = [0u64; TALLY];
     let x = play(model, tables, lists, tape, budget, work, &mut tally, trace);
-    let n = reported(model, tables, &tally, work, x, report);
+    let n = reported(model, tables, &tally, work, &x, report);
     ended(x, n)
 }

@@ -5,79 +5,67 @@ ghost use Rattle.machine.specs.All.{min, List, ℕ};
 ghost use Rattle.rows_laws.specs.All.{Room};
 ghost use Rattle.engine_laws.specs.Turns.{turns_left, Onward, WhereAllWait, WhereEnter};
 
-use crate::ends::end_before;
-use constants::Model;
-use constants::kinds::ENTER;
+use crate::ends::{after, end_before};
+use constants::{Kind, Model};
 use layout::{TABLES, TALLY};
-use saturating::{less32, less64};
-use state::{NO_RECORD, NOBODY, Scalars};
+use rows::Work;
+use state::{Mover, Note, Scalars};
 use turn::{all_wait, back_to, crowded, lengthen, line_all, quiet, stay};
 
 // Their turns, at most `left`, to a block where everybody waits; answers how many turns are done then.
-fn stay_all(work: &mut [u32], budget: u64, room: usize, x: Scalars, block: u32, left: u32) -> u32
-    requires { Room work.old }
-    ensures where_all_wait { WhereAllWait block x
-        (λ model tables tape tally trace. Onward model tables tape trace budget room x left work.old tally result
+fn stay_all(work: &mut Work, budget: u64, room: usize, x: &Scalars, block: u32, left: u32) -> u32
+    ensures where_all_wait { WhereAllWait block x.now
+        (λ model tables tape tally trace. Onward model tables tape trace budget room x.now left work.old tally result
         work.new tally) }
-    ensures least { x.turns ≤ result }
-    ensures most { result ≤ x.turns + left }
+    ensures least { x.now.turns ≤ result }
+    ensures most { result ≤ x.now.turns + left }
 {
-    let mut y = x;
-    let mut rest = left;
-    while 0 < rest {
-        if end_before(work, y, budget, room) != 0 {
+    let mut y = *x;
+    for _ in 0..left {
+        if let Some(_) = end_before(work, &y, budget, room) {
             return y.turns;
         }
         if back_to(work) != block {
             return y.turns;
         }
         stay(work);
-        y.turns += 1;
-        rest -= 1;
+        let turns = y.turns + 1;
+        y = after(y, turns);
     }
     y.turns
-}
-
-fn least(a: u32, b: u32) -> u32
-    ensures { result ≡ min a b }
-{
-    if a < b {
-        return a;
-    }
-    b
 }
 
 // How many more turns there may be.
 fn turns_left(turns: u32, budget: u64, left: u32) -> u32
     ensures { result ≡ turns_left turns budget left }
 {
-    let most = least(left, less32(Model::MAX_TURNS, turns));
-    let bought = less64(budget, turns as u64);
+    let most = left.min(Model::MAX_TURNS.saturating_sub(turns));
+    let bought = budget.saturating_sub(turns as u64);
     if bought < most as u64 {
-        return bought as u32;
+        bought as u32
+    } else {
+        most
     }
-    most
 }
 
 // The same to an ENTER, if fewer units are free than it takes. They go back as they stand on REL, with one walk along their links.
 fn queue_all(
     tables: &[u32; TABLES],
-    work: &mut [u32],
+    work: &mut Work,
     tally: &mut [u64; TALLY],
     budget: u64,
     room: usize,
-    x: Scalars,
+    x: &Scalars,
     block: u32,
     left: u32,
 ) -> u32
-    requires { Room work.old }
-    ensures where_enter { WhereEnter tables.now block x
-        (λ model tape trace. Onward model tables.now tape trace budget room x left work.old tally.old result
+    ensures where_enter { WhereEnter tables.now block x.now
+        (λ model tape trace. Onward model tables.now tape trace budget room x.now left work.old tally.old result
         work.new tally.new) }
-    ensures least { x.turns ≤ result }
-    ensures most { result ≤ x.turns + left }
+    ensures least { x.now.turns ≤ result }
+    ensures most { result ≤ x.now.turns + left }
 {
-    if end_before(work, x, budget, room) != 0 {
+    if let Some(_) = end_before(work, x, budget, room) {
         return x.turns;
     }
     if !crowded(tables, tally, block) {
@@ -97,26 +85,25 @@ pub fn herd(
     model: Model,
     tables: &[u32; TABLES],
     budget: u64,
-    work: &mut [u32],
+    work: &mut Work,
     tally: &mut [u64; TALLY],
     room: usize,
-    x: Scalars,
+    x: &Scalars,
     left: u32,
 ) -> u32
-    requires { Room work.old }
-    ensures by_index { (tape trace : List ℕ) → Onward model tables.now tape trace budget room x left work.old tally.old result
+    ensures by_index { (tape trace : List ℕ) → Onward model tables.now tape trace budget room x.now left work.old tally.old result
         work.new tally.new }
-    ensures least { x.turns ≤ result }
-    ensures most { result ≤ x.turns + left }
+    ensures least { x.now.turns ≤ result }
+    ensures most { result ≤ x.now.turns + left }
 {
-    if x.note != NO_RECORD {
+    let Note::NoRecord = x.note.note() else {
         return x.turns;
-    }
-    if x.moving != NOBODY {
+    };
+    if x.moving.number() != Mover::NOBODY.number() {
         return x.turns;
     }
     let block = back_to(work);
-    if quiet(tables, ENTER, block) {
+    if quiet(tables, Kind::Enter, block) {
         return queue_all(tables, work, tally, budget, room, x, block, left);
     }
     if !all_wait(tables, model.values, tally, x.clock, block) {

@@ -10,7 +10,8 @@ mod steps;
 
 ghost use Rattle.engine_laws.specs.Contract.{Contract};
 
-use decode::{Decoded, decode};
+use constants::Refusal;
+use decode::decode;
 pub use engine_laws::Outcome;
 use finish::{accepted, refused};
 use layout::{LIST_CELLS, TABLES};
@@ -38,7 +39,10 @@ pub fn run(
         &mut lists,
     );
     match decoded {
-        Decoded::Refused(n) => refused(n),
-        Decoded::Model(m) => accepted(m, &tables, &lists, tape, budget, work, trace, report),
+        Err(r) => refused(r),
+        Ok(m) => match work.first_chunk_mut() {
+            Some(rows) => accepted(m, &tables, &lists, tape, budget, rows, trace, report),
+            None => refused(Refusal::ShortWork),
+        },
     }
 }

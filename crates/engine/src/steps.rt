@@ -1,20 +1,32 @@
 // The turns of a run, until an end.
 ghost use Rattle.std.specs.Prelude.{◌≡◌, ◌≤◌};
-ghost use Rattle.machine.specs.All.{length, max_blocks, max_facilities};
+ghost use Rattle.machine.specs.All.{eqb, length, max_blocks, max_facilities};
 ghost use Rattle.rows_laws.specs.All.{Room};
 ghost use Rattle.state.specs.All.{rows_of};
 ghost use Rattle.turn_laws.specs.Turn.{traced};
 ghost use Rattle.engine_laws.specs.Turns.{turns_rows};
 
-use crate::ends::end_before;
+use crate::ends::{after, close, end_before};
 use crate::herds::herd;
 use constants::Model;
 use layout::{TABLES, TALLY};
-use state::{NO_RECORD, Scalars};
+use rows::Work;
+use state::{Note, Scalars};
 use turn::turn;
 
 // Each step asks for the end before the turn, so one step more than the most turns is never used up.
 const STEPS: u32 = Model::MAX_TURNS + 1;
+
+// Did the last turn write no record, since who moved came back and waits again?
+fn unrecorded(x: &Scalars) -> bool
+    ensures { result ≡ eqb x.now.note 2 }
+{
+    match x.note.note() {
+        Note::Entered => false,
+        Note::Waits => false,
+        Note::NoRecord => true,
+    }
+}
 
 // Turns one by one as long as nobody came back to wait, in a loop of their own; then those of a herd.
 pub fn turns(
@@ -22,14 +34,13 @@ pub fn turns(
     tables: &[u32; TABLES],
     tape: &[u8],
     budget: u64,
-    work: &mut [u32],
+    work: &mut Work,
     tally: &mut [u64; TALLY],
     trace: &mut [u8],
     x: Scalars,
 ) -> Scalars
     requires facilities_le_max_facilities { model.facilities ≤ max_facilities }
     requires blocks_le_max_blocks { model.blocks ≤ max_blocks }
-    requires room { Room work.old }
     ensures { traced (rows_of result work.new tally.new) trace.new
         ≡ turns_rows model tables.now tape.now budget (length trace.old)
         (traced (rows_of x work.old tally.old) trace.old) }
@@ -42,18 +53,16 @@ pub fn turns(
             if left == 0 {
                 return y;
             }
-            let e = end_before(work, y, budget, trace.len());
-            if e != 0 {
-                y.end = e;
-                return y;
+            if let Some(end) = end_before(work, &y, budget, trace.len()) {
+                return close(y, end);
             }
             y = turn(model, tables, tape, work, tally, trace, y);
             left -= 1;
-            plain = y.note != NO_RECORD;
+            plain = !unrecorded(&y);
         }
-        let done = herd(model, tables, budget, work, tally, trace.len(), y, left);
+        let done = herd(model, tables, budget, work, tally, trace.len(), &y, left);
         left -= done - y.turns;
-        y.turns = done;
+        y = after(y, done);
     }
     y
 }

@@ -63,7 +63,7 @@ module _ (model tape : List ℕ) (budget : ℕ) (work trace report : List ℕ) (
   follows-apart : Follows m budget (length trace) (end_of budget (length trace)) (turn_rows (header_of m) tables tape) close_rows
       (Runs tape trace) (Good m times (length trace))
   follows-apart =
-      let f = follows model tape budget work trace report m times accepted tables lists represents begins
+      let f = follows model tape budget work work trace report m times accepted tables lists represents begins
       (turned proper represents (nested-from model tape (length work) (length report) accepted) trace budget) in
       record {
         end = λ a s g h. f.end a s g.kept h;

@@ -35,14 +35,15 @@ closed-stands tape a s e h =
 
 -- ---- All turns
 
-module _ (model tape : List ℕ) (budget : ℕ) (work trace report : List ℕ) (m : BlockModel) (times : List (List ℕ))
-    (accepted : validate in_force model tape (length work) (length report) ≡ accept m times) (tables lists : List ℕ)
+-- of a lent work buffer, and of the part that the rows are in
+module _ (model tape : List ℕ) (budget : ℕ) (lent work trace report : List ℕ) (m : BlockModel) (times : List (List ℕ))
+    (accepted : validate in_force model tape (length lent) (length report) ≡ accept m times) (tables lists : List ℕ)
     (represents : Represents m times tape tables lists)
     (started : Runs tape trace (traced (start_rows (header_of m) tables tape lists work (replicate tally_size 0)) trace) (start m times))
     (turned : (a : Traced) (s : State) → Taken budget (length trace) s → Kept m times (length trace) s → Runs tape trace a s
     → Runs tape trace (turn_rows (header_of m) tables tape a) (turn m s)) where
   proper : Proper m times
-  proper = proper-from in_force model tape (length work) (length report) accepted
+  proper = proper-from in_force model tape (length lent) (length report) accepted
 
   abbrev R : Traced → State → Type 0
   R = Runs tape trace
@@ -75,10 +76,10 @@ module _ (model tape : List ℕ) (budget : ℕ) (work trace report : List ℕ) (
       (kept-start proper represents.rules (length trace))
 
   -- whatever finishes the last rows of an accepted run as `finish` does meets the contract
-  pub run-accepted : (r : Results) (work' trace' report' : List ℕ) → Finishes (header_of m) tables last report r trace' report'
-      → Contract model tape budget work trace report r work' trace' report'
-  run-accepted r work' trace' report' f =
+  pub run-accepted : (r : Results) (lent' trace' report' : List ℕ) → Finishes (header_of m) tables last report r trace' report'
+      → Contract model tape budget lent trace report r lent' trace' report'
+  run-accepted r lent' trace' report' f =
       rw f.results
-      (accepted-runs model tape budget work trace report m times accepted last.rows work' trace' report'
+      (accepted-runs model tape budget lent trace report m times accepted last.rows lent' trace' report'
       r.report_bytes tables lists represents
       last-follows.0.stands (rw f.trace-is last-follows.0.writes) last-follows.1 f.reported)

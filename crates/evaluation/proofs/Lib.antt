@@ -2,6 +2,7 @@ pub mod Examples
 pub mod Found
 pub mod Laws
 pub mod NestedFrom
+pub mod Parts
 pub mod Seen
 pub mod Signs
 pub mod Steps

@@ -1,8 +1,8 @@
 -- One step of the evaluation over the tables, pure: what each way through `term`, `sum` and `value` gives.
-use Rattle.machine.specs.All.{ℕ, zero, suc, ◌+◌, ◌-◌, ◌*◌, ◌≤◌, ◌<◌, arith, List, ◌≡◌, refl, sym, ap, ◌∙◌, eqb, length, get_or, lt-ltb, le-ltb, ne_eqb, eqb-true, eqb-false, max_brackets, Bool, true, false, cond}
+use Rattle.machine.specs.All.{ℕ, zero, suc, ◌+◌, ◌-◌, ◌*◌, ◌≤◌, ◌<◌, arith, List, ◌≡◌, refl, sym, ap, ◌∙◌, eqb, length, get_or, lt-ltb, le-ltb, ne_eqb, eqb-true, eqb-false, max_brackets, one_if, Bool, true, false, cond}
 use Rattle.std.proofs.Common.{ℤ, pos}
 use Rattle.layout.specs.Layout as Layout
-use Rattle.evaluation.specs.{Worth, worth_at, joined, judged, sum_from, comparison_from, bracket_from, pair_from, nothing_at, tagged_term, term_from, value_by, value_below}
+use Rattle.evaluation.specs.{Worth, worth_at, joined, judged, related_by, sum_from, comparison_from, bracket_from, pair_from, nothing_at, tagged_term, term_from, value_by, value_below}
 
 -- ---- A term by its tag
 
@@ -141,6 +141,11 @@ module _ (tables : List ℕ) (term : ℕ → Worth) (at n : ℕ) (en : n ≡ get
       (r : Worth) → r ≡ sum_from tables term (left - 1) z next → r ≡ sum_from tables term left so_far at
   sum_step left ne inl so_far t et x y z ex ey ez next ex' r er =
       er ∙ rw (ez, ey, ex, en, ex', et) (sym (sum_more tables term so_far at left ne inl))
+
+-- what a comparison is worth, and where its second term ended
+pub judged-is : (n : ℕ) (a b : Worth) (z : ℤ) → z ≡ one_if (related_by n a.worth b.worth) → worth_at z b.next ≡ judged n a b
+unfolding judged
+judged-is n a b z e = ap (λ (y : ℤ). worth_at y b.next) e
 
 -- past the tables a sum of nothing
 pub value-past : (tables : List ℕ) (simple : ℕ → ℕ → ℤ) (k lower : ℕ) → k < lower

@@ -1,8 +1,9 @@
 -- Evaluation over the numbers of the tables and the tally, as the code does it. It asks nothing of them: an index past an end
 -- reads 0, a mention of a value that is not lower is worth 0, and so is a bracket deeper than the limit.
 use Rattle.machine.specs.All.{ℕ, zero, suc, Bool, cond, not, List, ltb, eqb, length, get_or, max_blocks, max_facilities, max_storages, max_queues, max_brackets, signed, wrap, eq_z, one_if}
-use Rattle.std.specs.Prelude.{ℤ, pos, ◌+ℤ◌, ◌-ℤ◌, neg_ℤ, int_le, int_lt, ◌+◌, ◌-◌, ◌*◌, ◌/◌}
+use Rattle.std.specs.Prelude.{ℤ, pos, ◌+ℤ◌, ◌-ℤ◌, neg_ℤ, int_le, int_lt, ◌+◌, ◌-◌, ◌*◌}
 use Rattle.layout.specs.Layout as Layout
+pub use Rattle.evaluation.specs.declared.view.Worth.{Worth}
 
 -- ---- Relations by their number
 
@@ -45,16 +46,8 @@ simple_term tables tally clock p tag n =
 -- ---- Sums and terms that call each other
 
 -- what a term or a sum is worth, and the position after its numbers
-pub record Worth : Type 0 where
-  pub worth : ℤ
-  pub next : ℕ
-
 abbrev pub worth_at : ℤ → ℕ → Worth
 worth_at z next = record { worth = z; next = next }
-
--- both in one number of 64 bits
-unfoldable pub unpacked : ℕ → Worth
-unpacked n = worth_at (wrap (pos n)) (n / Layout.word_end)
 
 -- what a term is worth goes into what follows it
 abbrev pub and_then : Worth → (ℤ → ℕ → Worth) → Worth

@@ -2,43 +2,37 @@
 ghost use Rattle.std.specs.Prelude.{◌≡◌, ◌≤◌};
 ghost use Rattle.machine.specs.All.{length, get_or, one_if};
 ghost use Rattle.layout.specs.All.{tables_size, most32};
-ghost use Rattle.evaluation.specs.Evaluation.{unpacked, joined, judged, simple_term, sum_from, comparison_from, value_below, term_of, term_at, compare_at};
+ghost use Rattle.evaluation.specs.Evaluation.{joined, related_by, simple_term, sum_from, comparison_from, value_below, term_of, term_at, compare_at};
 
-use crate::answer::{next_of, packed, worth_of};
-use crate::relations::related;
-use crate::simple::simple_term;
-use crate::wrapping::{add, subtract};
+use crate::relations::Relation;
+use crate::view::{View, Worth};
 use constants::Model;
-use layout::{RELATION, RIGHT, TABLES, TALLY, VALUE_WIDTH, VALUES, number};
+use layout::{RELATION, RIGHT, TABLES, Tag, VALUE_WIDTH, VALUES, number};
 
 const POSITIONS: u32 = TABLES as u32;
 
 const TERM_WIDTH: u32 = layout::TERM_WIDTH as u32;
 
-const VALUE_TAG: u32 = layout::VALUE_TAG as u32;
+const VALUE_TAG: u32 = Tag::Value as u32;
 
-const COMPARISON_TAG: u32 = layout::COMPARISON_TAG as u32;
+const COMPARISON_TAG: u32 = Tag::Comparison as u32;
 
 // "a sign (0 plus, 1 minus)"
 fn join(sign: u32, a: i32, b: i32) -> i32
     ensures { result ≡ joined sign a b }
 {
-    if sign == 0 { add(a, b) } else { subtract(a, b) }
+    if sign == 0 {
+        a.wrapping_add(b)
+    } else {
+        a.wrapping_sub(b)
+    }
 }
 
-// 1 or 0
-fn one_if(holds: bool) -> i32
-    ensures { result ≡ one_if holds }
+// Are two numbers in a relation? 1 or 0.
+fn judge(relation: u32, a: i32, b: i32) -> i32
+    ensures { result ≡ one_if (related_by relation a b) }
 {
-    if holds { 1 } else { 0 }
-}
-
-// The answer of a comparison, from those of its terms.
-fn judge(relation: u32, left: u64, right: u64) -> u64
-    ensures { unpacked result ≡ judged relation (unpacked left) (unpacked right) }
-{
-    let holds = related(relation, worth_of(left), worth_of(right));
-    packed(one_if(holds), next_of(right))
+    i32::from(Relation::of(relation).holds(a, b))
 }
 
 // The number at a position of the tables; 0 past their end. That the tables are whole is told to those who only pass them on.
@@ -49,187 +43,149 @@ fn number_at(tables: &[u32; TABLES], at: u32) -> u32
     number(tables, at as usize)
 }
 
-// A term at a position, where `depth` brackets may still open and the first `lower` values may be named: its answer.
-#[cycle(comparison_sum_term_value)]
-fn term(
-    tables: &[u32; TABLES],
-    tally: &[u64; TALLY],
-    clock: u64,
-    parameters: &[u32; Model::PARAMETERS],
-    lower: usize,
-    depth: usize,
-    at: u32,
-) -> u64
-    ensures { unpacked result ≡ term_of tables.now tally.now clock parameters.now lower depth at }
-{
-    let tag = number_at(tables, at);
-    if POSITIONS <= at {
-        return packed(0, at);
+impl View<'_> {
+    // A term at a position, where `depth` brackets may still open and the first `lower` values may be named: its answer.
+    #[cycle(comparison_sum_term_value)]
+    fn term(
+        &self,
+        parameters: &[u32; Model::PARAMETERS],
+        lower: usize,
+        depth: usize,
+        at: u32,
+    ) -> Worth
+        ensures { result ≡ term_of self.now.tables.now self.now.tally.now self.now.clock parameters.now lower depth at }
+    {
+        let tag = number_at(self.tables, at);
+        if POSITIONS <= at {
+            return Worth { worth: 0, next: at };
+        }
+        let n = number_at(self.tables, at + 1);
+        // kept: by the numbers, since a match over `Tag` becomes one table of jumps: 59 ns for each value asked, where this takes 47
+        if tag < VALUE_TAG {
+            let worth = self.simple_term(parameters, Tag::of(tag), n);
+            return Worth {
+                worth,
+                next: at + TERM_WIDTH,
+            };
+        }
+        if tag == VALUE_TAG {
+            let worth = self.value(parameters, lower, n);
+            return Worth {
+                worth,
+                next: at + TERM_WIDTH,
+            };
+        }
+        if depth == 0 {
+            return Worth {
+                worth: 0,
+                next: at + 1,
+            };
+        }
+        if tag == COMPARISON_TAG {
+            return self.comparison(parameters, lower, depth - 1, at + 1);
+        }
+        self.sum(parameters, lower, depth - 1, n, 0, at + 2)
     }
-    let n = number_at(tables, at + 1);
-    if tag < VALUE_TAG {
-        return packed(
-            simple_term(tables, tally, clock, parameters, tag, n),
-            at + TERM_WIDTH,
+
+    // A relation and two terms: 1 if it holds, else 0.
+    #[cycle(comparison_sum_term_value)]
+    fn comparison(
+        &self,
+        parameters: &[u32; Model::PARAMETERS],
+        lower: usize,
+        depth: usize,
+        at: u32,
+    ) -> Worth
+        requires { at ≤ tables_size }
+        ensures { result ≡ comparison_from self.now.tables.now
+            (term_of self.now.tables.now self.now.tally.now self.now.clock parameters.now lower depth) at }
+    {
+        let left = self.term(parameters, lower, depth, at + 1);
+        let right = self.term(parameters, lower, depth, left.next);
+        let worth = judge(number_at(self.tables, at), left.worth, right.worth);
+        Worth {
+            worth,
+            next: right.next,
+        }
+    }
+
+    // The terms of a sum from a position on, `left` of them, behind terms worth `so_far`.
+    #[cycle(comparison_sum_term_value)]
+    fn sum(
+        &self,
+        parameters: &[u32; Model::PARAMETERS],
+        lower: usize,
+        depth: usize,
+        left: u32,
+        so_far: i32,
+        at: u32,
+    ) -> Worth
+        ensures { result ≡ sum_from self.now.tables.now
+            (term_of self.now.tables.now self.now.tally.now self.now.clock parameters.now lower depth) left so_far at }
+    {
+        if left == 0 {
+            return Worth {
+                worth: so_far,
+                next: at,
+            };
+        }
+        let sign = number_at(self.tables, at);
+        if POSITIONS <= at {
+            return Worth {
+                worth: so_far,
+                next: at,
+            };
+        }
+        let t = self.term(parameters, lower, depth, at + 1);
+        let joint = join(sign, so_far, t.worth);
+        self.sum(parameters, lower, depth, left - 1, joint, t.next)
+    }
+
+    // Value k (from 0) if it is one of the first `lower`, else 0; past the tables a sum of nothing. With two mentions in each of eight
+    // values at most 255 are evaluated, each in time linear in its numbers.
+    #[cycle(comparison_sum_term_value)]
+    fn value(&self, parameters: &[u32; Model::PARAMETERS], lower: usize, k: u32) -> i32
+        ensures { result ≡ value_below self.now.tables.now
+            (simple_term self.now.tables.now self.now.tally.now self.now.clock parameters.now) lower k }
+    {
+        let k = k as usize;
+        if lower <= k {
+            return 0;
+        }
+        let at = VALUES + VALUE_WIDTH * k;
+        let tables = self.tables;
+        let count = number(tables, at);
+        if TABLES <= at + 1 {
+            return 0;
+        }
+        let whole = self.sum(
+            parameters,
+            k,
+            Model::MAX_BRACKETS,
+            count,
+            0,
+            (at + 1) as u32,
         );
+        whole.worth
     }
-    if tag == VALUE_TAG {
-        return packed(
-            value(tables, tally, clock, parameters, lower, n),
-            at + TERM_WIDTH,
-        );
-    }
-    if depth == 0 {
-        return packed(0, at + 1);
-    }
-    if tag == COMPARISON_TAG {
-        return comparison(tables, tally, clock, parameters, lower, depth - 1, at + 1);
-    }
-    sum(
-        tables,
-        tally,
-        clock,
-        parameters,
-        lower,
-        depth - 1,
-        n,
-        0,
-        at + 2,
-    )
-}
 
-// A relation and two terms: 1 if it holds, else 0.
-#[cycle(comparison_sum_term_value)]
-fn comparison(
-    tables: &[u32; TABLES],
-    tally: &[u64; TALLY],
-    clock: u64,
-    parameters: &[u32; Model::PARAMETERS],
-    lower: usize,
-    depth: usize,
-    at: u32,
-) -> u64
-    requires { at ≤ tables_size }
-    ensures { unpacked result ≡ comparison_from tables.now
-        (term_of tables.now tally.now clock parameters.now lower depth) at }
-{
-    let left = term(tables, tally, clock, parameters, lower, depth, at + 1);
-    let right = term(
-        tables,
-        tally,
-        clock,
-        parameters,
-        lower,
-        depth,
-        next_of(left),
-    );
-    judge(number_at(tables, at), left, right)
-}
-
-// The terms of a sum from a position on, `left` of them, behind terms worth `so_far`.
-#[cycle(comparison_sum_term_value)]
-fn sum(
-    tables: &[u32; TABLES],
-    tally: &[u64; TALLY],
-    clock: u64,
-    parameters: &[u32; Model::PARAMETERS],
-    lower: usize,
-    depth: usize,
-    left: u32,
-    so_far: i32,
-    at: u32,
-) -> u64
-    ensures { unpacked result ≡ sum_from tables.now
-        (term_of tables.now tally.now clock parameters.now lower depth) left so_far at }
-{
-    if left == 0 {
-        return packed(so_far, at);
+    // A term of a block, by the position of its tag.
+    pub fn term_at(&self, parameters: &[u32; Model::PARAMETERS], at: usize) -> i32
+        requires { at ≤ most32 }
+        ensures { result ≡ term_at self.now.tables.now self.now.tally.now self.now.values self.now.clock parameters.now at }
+    {
+        let t = self.term(parameters, self.values, 0, at as u32);
+        t.worth
     }
-    let sign = number_at(tables, at);
-    if POSITIONS <= at {
-        return packed(so_far, at);
-    }
-    let t = term(tables, tally, clock, parameters, lower, depth, at + 1);
-    let joint = join(sign, so_far, worth_of(t));
-    sum(
-        tables,
-        tally,
-        clock,
-        parameters,
-        lower,
-        depth,
-        left - 1,
-        joint,
-        next_of(t),
-    )
-}
 
-// Value k (from 0) if it is one of the first `lower`, else 0; past the tables a sum of nothing. With two mentions in each of eight
-// values at most 255 are evaluated, each in time linear in its numbers.
-#[cycle(comparison_sum_term_value)]
-fn value(
-    tables: &[u32; TABLES],
-    tally: &[u64; TALLY],
-    clock: u64,
-    parameters: &[u32; Model::PARAMETERS],
-    lower: usize,
-    k: u32,
-) -> i32
-    ensures { result ≡ value_below tables.now
-        (simple_term tables.now tally.now clock parameters.now) lower k }
-{
-    let k = k as usize;
-    if lower <= k {
-        return 0;
+    // Left, relation and right of a WAITIF or an IF, by the position of the left term's tag.
+    pub fn compare_at(&self, parameters: &[u32; Model::PARAMETERS], at: usize) -> bool
+        requires { at ≤ tables_size }
+        ensures { result ≡ compare_at self.now.tables.now self.now.tally.now self.now.values self.now.clock parameters.now at }
+    {
+        let left = self.term_at(parameters, at);
+        let right = self.term_at(parameters, at + RIGHT);
+        let tables = self.tables;
+        Relation::of(number(tables, at + RELATION)).holds(left, right)
     }
-    let at = VALUES + VALUE_WIDTH * k;
-    let count = number(tables, at);
-    if TABLES <= at + 1 {
-        return 0;
-    }
-    let whole = sum(
-        tables,
-        tally,
-        clock,
-        parameters,
-        k,
-        Model::MAX_BRACKETS,
-        count,
-        0,
-        (at + 1) as u32,
-    );
-    worth_of(whole)
-}
-
-// A term of a block, by the position of its tag. The first `values` values may be named.
-pub fn term_at(
-    tables: &[u32; TABLES],
-    tally: &[u64; TALLY],
-    values: usize,
-    clock: u64,
-    parameters: &[u32; Model::PARAMETERS],
-    at: usize,
-) -> i32
-    requires { at ≤ most32 }
-    ensures { result ≡ term_at tables.now tally.now values clock parameters.now at }
-{
-    let t = term(tables, tally, clock, parameters, values, 0, at as u32);
-    worth_of(t)
-}
-
-// Left, relation and right of a WAITIF or an IF, by the position of the left term's tag.
-pub fn compare_at(
-    tables: &[u32; TABLES],
-    tally: &[u64; TALLY],
-    values: usize,
-    clock: u64,
-    parameters: &[u32; Model::PARAMETERS],
-    at: usize,
-) -> bool
-    requires { at ≤ tables_size }
-    ensures { result ≡ compare_at tables.now tally.now values clock parameters.now at }
-{
-    let left = term_at(tables, tally, values, clock, parameters, at);
-    let right = term_at(tables, tally, values, clock, parameters, at + RIGHT);
-    related(number(tables, at + RELATION), left, right)
 }

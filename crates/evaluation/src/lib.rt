@@ -2,12 +2,10 @@
 
 #![tactic(auto)]
 
-mod answer;
 mod evaluate;
 mod relations;
 mod simple;
-mod wrapping;
+mod view;
 
-pub use evaluate::{compare_at, term_at};
-pub use relations::related;
-pub use wrapping::{add, bits, signed, subtract};
+pub use relations::Relation;
+pub use view::View;

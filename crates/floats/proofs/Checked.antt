@@ -2,7 +2,7 @@
 -- where it is a whole number of parts in range.
 use Rattle.std.proofs.Common.{◌≡◌, ℕ, ◌*◌, ◌/◌, ◌%◌, ◌^◌, ◌<◌, ◌≤◌, Bool, true, false, cond, ◌&&◌, T, eqb, leb, pos, sym, refl, ap, ◌∙◌, subst, le_trans, lt_of_le_of_lt, mul_assoc, mul-pos, one-mul, div-add-mod', mul-one, div-one, mul-div_cancel, arith, lit<, lit≤, le→leb, pow_pos, eqb-true, le-leb, leb-true}
 use native.Mathlib.Nat.{mul-mod_left}
-use mathlib.Core.Option.{Option, none, some}
+use Rattle.std.specs.Prelude.{Option, None as none, Some as some}
 use lib.Ieee.{Float, nan, inf, fin, binary64, prec, up, down, mul, div, eq, of_int, in_float}
 use lib.Ieee.Fits.{down_pos}
 use Rattle.floats.specs.{max_time_parts, Is, parts_of, whole_part_lem}

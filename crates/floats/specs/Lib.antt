@@ -1,8 +1,8 @@
 pub mod Limits
 pub mod Value
 pub mod Line
-pub mod Answers
+pub mod Scales
 pub use Limits.*
 unfoldable pub use Value.*
 unfoldable pub use Line.*
-unfoldable pub use Answers.*
+pub use Scales.*

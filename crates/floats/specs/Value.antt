@@ -1,6 +1,5 @@
 -- What a double is worth, as a fraction of whole numbers.
-use Rattle.std.specs.Prelude.{◌≡◌, ℕ, ◌*◌, ◌/◌, ◌%◌, true, false, cond, ◌&&◌, pos, ◌==◌, nat_le, Float}
-use Rattle.std.proofs.Math.Option.{Option, none, some}
+use Rattle.std.specs.Prelude.{◌≡◌, ℕ, ◌*◌, ◌/◌, ◌%◌, true, false, cond, ◌&&◌, pos, ◌==◌, nat_le, Float, Option, None as none, Some as some}
 use Rattle.std.specs.Float.{nan, inf, fin}
 use Rattle.std.specs.Float.Ieee.{up, down, lt, to_unsigned}
 

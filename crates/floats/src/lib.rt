@@ -5,10 +5,10 @@
 
 ghost use Rattle.std.specs.Prelude.{◌≡◌, ℕ, ◌/◌, ◌^◌, ◌≤◌};
 ghost use Rattle.std.specs.Float.{binary64};
-ghost use Rattle.floats.specs.Limits.{time_parts, max_time_parts, draw_parts};
+ghost use Rattle.floats.specs.Limits.{max_time_parts, draw_parts};
 ghost use Rattle.floats.specs.Value.{Is, parts_of, whole_part_lem};
 ghost use Rattle.floats.specs.Line.{line_double, line_over, line_under, Ends, OnLine, spread_double, spread_over, spread_under, Width, Exactly};
-ghost use Rattle.floats.specs.Answers.{count_of};
+ghost use Rattle.floats.specs.Scales.{counted};
 
 // "Times, means and halves are multiples of 1/64 from 0 to 1,000,000", "u .. in 65,536ths"
 const TIME_PARTS: f64 = 64.0;
@@ -22,11 +22,11 @@ const MAX_DRAW_PARTS: u64 = 65_536;
 // 2 ^ 64, the first whole number that no u64 holds.
 const TWO_64: f64 = 18446744073709551616.0;
 
-// How many parts a double has; or it is not a whole number of them in range.
-#[derive(Clone, Copy)]
-pub enum Parts {
-    Count(u64),
-    Refused,
+// What a double counts: a time, a mean or a half-width in 64ths, or a u in 65,536ths.
+#[derive(Clone, Copy, PartialEq, Eq)]
+pub enum Scale {
+    Time,
+    Draw,
 }
 
 // The two end points of a curve's segment.
@@ -52,32 +52,30 @@ pub fn whole_part(x: f64) -> u64
 }
 
 // How many parts of 1 / scale a double has, where it is a whole number of them up to `most`.
-fn count_parts(x: f64, scale: f64, most: u64) -> Parts
+fn count_parts(x: f64, scale: f64, most: u64) -> Option<u64>
     requires { most ≤ max_time_parts }
-    ensures { (k : ℕ) → k ≤ 16 → Is scale (2 ^ k) 1 → count_of result ≡ parts_of (2 ^ k) most x }
+    ensures { (k : ℕ) → k ≤ 16 → Is scale (2 ^ k) 1 → result ≡ parts_of (2 ^ k) most x }
 {
     let n = whole_part(x * scale);
     if most < n {
-        return Parts::Refused;
+        return None;
     }
     if n as f64 / scale == x {
-        return Parts::Count(n);
+        return Some(n);
     }
-    Parts::Refused
+    None
 }
 
-// A time, a mean or a half-width, in 64ths.
-pub fn time_parts(x: f64) -> Parts
-    ensures { count_of result ≡ parts_of time_parts max_time_parts x }
-{
-    count_parts(x, TIME_PARTS, MAX_TIME_PARTS)
-}
-
-// A u, in 65,536ths.
-pub fn draw_parts(x: f64) -> Parts
-    ensures { count_of result ≡ parts_of draw_parts draw_parts x }
-{
-    count_parts(x, DRAW_PARTS, MAX_DRAW_PARTS)
+impl Scale {
+    // How many parts a double has, where it is a whole number of them in range.
+    pub fn count(self, x: f64) -> Option<u64>
+        ensures { result ≡ counted self x }
+    {
+        match self {
+            Scale::Time => count_parts(x, TIME_PARTS, MAX_TIME_PARTS),
+            Scale::Draw => count_parts(x, DRAW_PARTS, MAX_DRAW_PARTS),
+        }
+    }
 }
 
 // v 65,536ths as a double.

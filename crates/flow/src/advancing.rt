@@ -1,7 +1,6 @@
 // 2 ADVANCE list.
-ghost use Rattle.std.specs.Prelude.{◌≡◌, ◌+◌, ◌<◌, ◌≤◌};
+ghost use Rattle.std.specs.Prelude.{◌≡◌, ◌+◌, ◌<◌};
 ghost use Rattle.layout.specs.All.{program_size};
-ghost use Rattle.rows_laws.specs.All.{Room, row_count};
 ghost use Rattle.moves.specs.Motion.{moved};
 ghost use Rattle.state.specs.All.{rows_of};
 ghost use Rattle.flow_laws.specs.Kinds.{send_on, delay_rows, advance_next, advance_rows};
@@ -9,47 +8,40 @@ ghost use Rattle.flow_laws.specs.Kinds.{send_on, delay_rows, advance_next, advan
 use crate::questions::ask_time;
 use crate::samples::{next_sample, times_left, use_time};
 use crate::sending::to_future;
-use constants::ends::NO_TIME;
+use constants::End;
 use flow_laws::Sample;
 use layout::{FIRST, number};
 use moves::{go_on, stop};
-use saturating::plus64;
-use state::{NOBODY, Scalars};
+use rows::Work;
+use state::{Mover, Moving, Scalars};
 
 // The moving one goes to the FEL at a time, its next block plus one.
-fn send_on(work: &mut [u32], x: Scalars, time: u64) -> Scalars
-    requires room { Room work.old }
-    requires moving_lt_row_count { x.moving < row_count }
+fn send_on(work: &mut Work, x: Moving, time: u64) -> Scalars
     ensures { moved result work.new ≡ send_on work.old x time }
 {
-    let k = x.moving;
+    let k = x.row();
     let y = go_on(work, x);
     let mut z = to_future(work, y, k, time);
-    z.moving = NOBODY;
+    z.moving = Mover::NOBODY;
     z
 }
 
-fn delay(work: &mut [u32], tally: &mut [u64], x: Scalars, sample: Sample, list: u32) -> Scalars
-    requires room { Room work.old }
-    requires moving_lt_row_count { x.moving < row_count }
+fn delay(work: &mut Work, tally: &mut [u64], x: Moving, sample: Sample, list: u32) -> Scalars
     ensures { rows_of result work.new tally.new ≡ delay_rows work.old tally.old x sample list }
 {
     let next = sample.next;
     use_time(tally, list, next);
-    let time = plus64(x.clock, sample.time);
+    let time = x.scalars().clock.saturating_add(sample.time);
     send_on(work, x, time)
 }
 
-fn advance_next(tape: &[u8], work: &mut [u32], tally: &mut [u64], x: Scalars, list: u32) -> Scalars
-    requires room { Room work.old }
-    requires moving_lt_row_count { x.moving < row_count }
+fn advance_next(tape: &[u8], work: &mut Work, tally: &mut [u64], x: Moving, list: u32) -> Scalars
     ensures { rows_of result work.new tally.new
         ≡ advance_next tape.now work.old tally.old x list }
 {
     let sample = next_sample(tape, tally, list);
-    let end = ask_time(x, sample.time);
-    if end != 0 {
-        return stop(x, end);
+    if let Err(end) = ask_time(x.scalars(), sample.time) {
+        return stop(x.scalars(), end);
     }
     delay(work, tally, x, sample, list)
 }
@@ -57,20 +49,18 @@ fn advance_next(tape: &[u8], work: &mut [u32], tally: &mut [u64], x: Scalars, li
 pub fn advance(
     tables: &[u32],
     tape: &[u8],
-    work: &mut [u32],
+    work: &mut Work,
     tally: &mut [u64],
-    x: Scalars,
+    x: Moving,
     at: usize,
 ) -> Scalars
-    requires room { Room work.old }
-    requires moving_lt_row_count { x.moving < row_count }
     requires at_lt_program_size { at < program_size }
     ensures { rows_of result work.new tally.new
         ≡ advance_rows tables.now tape.now work.old tally.old x at }
 {
     let list = number(tables, at + FIRST);
     if times_left(tally, list) == 0 {
-        return stop(x, NO_TIME);
+        return stop(x.scalars(), End::NoTime);
     }
     advance_next(tape, work, tally, x, list)
 }

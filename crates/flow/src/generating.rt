@@ -1,7 +1,6 @@
 // 1 GENERATE list, priority.
-ghost use Rattle.std.specs.Prelude.{◌≡◌, ◌+◌, ◌<◌, ◌≤◌};
+ghost use Rattle.std.specs.Prelude.{◌≡◌, ◌+◌, ◌<◌};
 ghost use Rattle.layout.specs.All.{program_size};
-ghost use Rattle.rows_laws.specs.All.{Room, row_count};
 ghost use Rattle.state.specs.All.{rows_of};
 ghost use Rattle.flow_laws.specs.Kinds.{arrive_on, generate_next, generate_rows};
 
@@ -11,25 +10,23 @@ use crate::sending::{arrives, one_made};
 use flow_laws::Sample;
 use layout::{FIRST, SECOND, number};
 use moves::{go_on, stop};
-use rows::NEXT;
 use rows::cells::read;
-use state::Scalars;
+use rows::{NEXT, Work};
+use state::{Moving, Scalars};
 
 // The transaction goes on, and a new one comes.
 fn arrive_on(
-    work: &mut [u32],
+    work: &mut Work,
     tally: &mut [u64],
-    x: Scalars,
+    x: Moving,
     sample: Sample,
     list: u32,
     priority: u32,
 ) -> Scalars
-    requires room { Room work.old }
-    requires moving_lt_row_count { x.moving < row_count }
     ensures { rows_of result work.new tally.new
         ≡ arrive_on work.old tally.old x sample list priority }
 {
-    let block = read(work, NEXT, x.moving);
+    let block = read(work, NEXT, x.row());
     let y = go_on(work, x);
     let made = arrives(
         work, tally, y.made, y.serial, y.clock, sample, list, priority, block,
@@ -39,21 +36,18 @@ fn arrive_on(
 
 fn generate_next(
     tape: &[u8],
-    work: &mut [u32],
+    work: &mut Work,
     tally: &mut [u64],
-    x: Scalars,
+    x: Moving,
     list: u32,
     priority: u32,
 ) -> Scalars
-    requires room { Room work.old }
-    requires moving_lt_row_count { x.moving < row_count }
     ensures { rows_of result work.new tally.new
         ≡ generate_next tape.now work.old tally.old x list priority }
 {
     let sample = next_sample(tape, tally, list);
-    let end = ask_arrival(x, sample.time);
-    if end != 0 {
-        return stop(x, end);
+    if let Err(end) = ask_arrival(x.scalars(), sample.time) {
+        return stop(x.scalars(), end);
     }
     arrive_on(work, tally, x, sample, list, priority)
 }
@@ -61,13 +55,11 @@ fn generate_next(
 pub fn generate(
     tables: &[u32],
     tape: &[u8],
-    work: &mut [u32],
+    work: &mut Work,
     tally: &mut [u64],
-    x: Scalars,
+    x: Moving,
     at: usize,
 ) -> Scalars
-    requires room { Room work.old }
-    requires moving_lt_row_count { x.moving < row_count }
     requires at_lt_program_size { at < program_size }
     ensures { rows_of result work.new tally.new
         ≡ generate_rows tables.now tape.now work.old tally.old x at }

@@ -1,34 +1,29 @@
 // 13 PRIORITY p.
-ghost use Rattle.std.specs.Prelude.{◌≡◌, ◌+◌, ◌<◌, ◌≤◌};
+ghost use Rattle.std.specs.Prelude.{◌≡◌, ◌+◌, ◌<◌};
 ghost use Rattle.layout.specs.All.{program_size};
-ghost use Rattle.rows_laws.specs.All.{Room, row_count};
 ghost use Rattle.moves.specs.Motion.{moved};
 ghost use Rattle.flow_laws.specs.Kinds.{rank_on, priority_rows};
 
 use crate::sending::{PRIORITIES, to_ready};
 use layout::{FIRST, number};
 use moves::go_on;
-use rows::STANDING;
 use rows::cells::write;
-use state::{NOBODY, Scalars};
+use rows::{STANDING, Work};
+use state::{Mover, Moving, Scalars};
 
 // The moving one goes to REL with a priority, its next block plus one.
-fn rank_on(work: &mut [u32], x: Scalars, p: u32) -> Scalars
-    requires room { Room work.old }
-    requires moving_lt_row_count { x.moving < row_count }
+fn rank_on(work: &mut Work, x: Moving, p: u32) -> Scalars
     ensures { moved result work.new ≡ rank_on work.old x p }
 {
-    let k = x.moving;
+    let k = x.row();
     let y = go_on(work, x);
     write(work, STANDING, k, p % PRIORITIES * 2);
     let mut z = to_ready(work, y, k);
-    z.moving = NOBODY;
+    z.moving = Mover::NOBODY;
     z
 }
 
-pub fn priority(tables: &[u32], work: &mut [u32], x: Scalars, at: usize) -> Scalars
-    requires room { Room work.old }
-    requires moving_lt_row_count { x.moving < row_count }
+pub fn priority(tables: &[u32], work: &mut Work, x: Moving, at: usize) -> Scalars
     requires at_lt_program_size { at < program_size }
     ensures { moved result work.new ≡ priority_rows tables.now work.old x at }
 {

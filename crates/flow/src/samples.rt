@@ -4,21 +4,17 @@ ghost use Rattle.machine.specs.All.{get_or};
 ghost use Rattle.layout.specs.Layout as Layout;
 ghost use Rattle.flow_laws.specs.Samples.{sample_at, next_sample, use_time};
 
-use codec::{Read, read_number};
+use codec::read_number;
 use constants::Model;
 use flow_laws::Sample;
 use layout::{LIST_AT, LIST_LEFT, count, set_count};
-use saturating::less64;
 
 fn sample_at(tape: &[u8], at: usize) -> Sample
     ensures { result ≡ sample_at tape.now at }
 {
-    let Read::Number(v, next) = read_number(tape, at, Model::FIVE_GROUPS) else {
-        return Sample { time: 0, next: at };
-    };
-    Sample {
-        time: v,
-        next: next,
+    match read_number(tape, at, Model::FIVE_GROUPS) {
+        Some((time, next)) => Sample { time, next },
+        None => Sample { time: 0, next: at },
     }
 }
 
@@ -46,5 +42,5 @@ pub fn use_time(tally: &mut [u64], list: u32, next: usize)
     let l = list as usize;
     let left = count(tally, LIST_LEFT + l);
     set_count(tally, LIST_AT + l, next as u64);
-    set_count(tally, LIST_LEFT + l, less64(left, 1));
+    set_count(tally, LIST_LEFT + l, left.saturating_sub(1));
 }

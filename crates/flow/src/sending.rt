@@ -1,7 +1,6 @@
 // Rows on no list go to the FEL or to REL with a fresh serial; new rows for both.
-ghost use Rattle.std.specs.Prelude.{◌≡◌, ◌<◌, ◌≤◌};
+ghost use Rattle.std.specs.Prelude.{◌≡◌};
 ghost use Rattle.machine.specs.All.{true};
-ghost use Rattle.rows_laws.specs.All.{Room, row_count};
 ghost use Rattle.moves.specs.Motion.{moved, next32};
 ghost use Rattle.state.specs.All.{put_serial, rows_of};
 ghost use Rattle.flow_laws.specs.Sending.{to_future, to_ready, born_at, born, one_made, arrives, copy_to, copy_one};
@@ -13,70 +12,66 @@ use rows::cells::{set_time, write};
 use rows::future::schedule;
 use rows::lists::put;
 use rows::make::{copy, make_row, newborn};
-use rows::{REL, ROWS, SERIAL};
-use saturating::{plus32, plus64};
+use rows::{Chain, Row, SERIAL, Work};
 use state::{Scalars, by_fields};
 
 // A priority is below this number.
 pub const PRIORITIES: u32 = Model::MAX_PRIORITY as u32 + 1;
 
 // Row k comes onto the FEL at a time, with the serial after this one.
-fn row_to_future(work: &mut [u32], serial: u32, k: u32, time: u64)
-    requires room { Room work.old }
-    requires k_lt_row_count { k < row_count }
+fn row_to_future(work: &mut Work, serial: u32, k: Row, time: u64)
     ensures { (x : Scalars) → x.serial ≡ serial
         → moved (put_serial (next32 x.serial) x) work.new ≡ to_future work.old x k time }
 {
-    write(work, SERIAL, k, plus32(serial, 1));
+    write(work, SERIAL, k, serial.saturating_add(1));
     set_time(work, k, time);
     schedule(work, k);
 }
 
-pub fn to_future(work: &mut [u32], x: Scalars, k: u32, time: u64) -> Scalars
-    requires room { Room work.old }
-    requires k_lt_row_count { k < row_count }
+pub fn to_future(work: &mut Work, x: Scalars, k: Row, time: u64) -> Scalars
     ensures { moved result work.new ≡ to_future work.old x k time }
 {
+    let serial = x.serial;
     let mut y = by_fields(x);
-    row_to_future(work, x.serial, k, time);
-    y.serial = plus32(x.serial, 1);
+    row_to_future(work, serial, k, time);
+    y.serial = serial.saturating_add(1);
     y
 }
 
-pub fn to_ready(work: &mut [u32], x: Scalars, k: u32) -> Scalars
-    requires room { Room work.old }
-    requires k_lt_row_count { k < row_count }
+pub fn to_ready(work: &mut Work, x: Scalars, k: Row) -> Scalars
     ensures { moved result work.new ≡ to_ready work.old x k }
 {
-    let serial = plus32(x.serial, 1);
+    let serial = x.serial.saturating_add(1);
     write(work, SERIAL, k, serial);
-    put(work, REL, k);
+    put(work, Chain::REL, k);
     let mut y = x;
     y.serial = serial;
     y
 }
 
 // Row k becomes a new transaction at a block, on the FEL at a time: the next number and serial.
-fn born_at(work: &mut [u32], made: u32, serial: u32, k: u32, time: u64, priority: u32, block: u32)
-    requires room { Room work.old }
-    requires k_lt_row_count { k < row_count }
+fn born_at(work: &mut Work, made: u32, serial: u32, k: Row, time: u64, priority: u32, block: u32)
     ensures { (x : Scalars) → x.made ≡ made → x.serial ≡ serial
         → moved (one_made x true) work.new ≡ born_at work.old x k time priority block }
 {
-    newborn(work, k, plus32(made, 1), priority % PRIORITIES, block);
+    newborn(
+        work,
+        k,
+        made.saturating_add(1),
+        priority % PRIORITIES,
+        block,
+    );
     row_to_future(work, serial, k, time);
 }
 
 // Answers whether there was a free row.
-fn born(work: &mut [u32], made: u32, serial: u32, time: u64, priority: u32, block: u32) -> bool
-    requires { Room work.old }
+fn born(work: &mut Work, made: u32, serial: u32, time: u64, priority: u32, block: u32) -> bool
     ensures { (x : Scalars) → x.made ≡ made → x.serial ≡ serial
         → moved (one_made x result) work.new ≡ born work.old x time priority block }
 {
-    let k = make_row(work);
-    if k >= ROWS {
+    let Some(k) = make_row(work) else {
         return false;
-    }
+    };
     born_at(work, made, serial, k, time, priority, block);
     true
 }
@@ -86,9 +81,11 @@ pub fn one_made(x: Scalars, made: bool) -> Scalars
     ensures { result ≡ one_made x made }
 {
     if made {
+        let number = x.made.saturating_add(1);
+        let serial = x.serial.saturating_add(1);
         let mut y = by_fields(x);
-        y.made = plus32(x.made, 1);
-        y.serial = plus32(x.serial, 1);
+        y.made = number;
+        y.serial = serial;
         return y;
     }
     x
@@ -96,7 +93,7 @@ pub fn one_made(x: Scalars, made: bool) -> Scalars
 
 // A new transaction comes onto the FEL at the clock plus a sample, which is used. Answers whether there was a free row.
 pub fn arrives(
-    work: &mut [u32],
+    work: &mut Work,
     tally: &mut [u64],
     made: u32,
     serial: u32,
@@ -106,39 +103,33 @@ pub fn arrives(
     priority: u32,
     block: u32,
 ) -> bool
-    requires { Room work.old }
     ensures { (x : Scalars) → x.made ≡ made → x.serial ≡ serial → x.clock ≡ clock
         → rows_of (one_made x result) work.new tally.new
         ≡ arrives work.old tally.old x sample list priority block }
 {
     let next = sample.next;
     use_time(tally, list, next);
-    let time = plus64(clock, sample.time);
+    let time = clock.saturating_add(sample.time);
     born(work, made, serial, time, priority, block)
 }
 
 // Row k becomes a copy of the moving one at a block, on REL.
-fn copy_to(work: &mut [u32], x: Scalars, k: u32, target: u32) -> Scalars
-    requires room { Room work.old }
-    requires moving_lt_row_count { x.moving < row_count }
-    requires k_lt_row_count { k < row_count }
-    ensures { moved result work.new ≡ copy_to work.old x k target }
+fn copy_to(work: &mut Work, x: Scalars, moving: Row, k: Row, target: u32) -> Scalars
+    ensures { x.moving ≡ moving → moved result work.new ≡ copy_to work.old x k target }
 {
-    let number = plus32(x.made, 1);
-    copy(work, x.moving, k, number, target);
+    let number = x.made.saturating_add(1);
+    copy(work, moving, k, number, target);
     let mut y = x;
     y.made = number;
     to_ready(work, y, k)
 }
 
-pub fn copy_one(work: &mut [u32], x: Scalars, target: u32) -> Scalars
-    requires room { Room work.old }
-    requires moving_lt_row_count { x.moving < row_count }
-    ensures { moved result work.new ≡ copy_one work.old x target }
+// The moving one, whose row is given too, gets a copy, where a row is free.
+pub fn copy_one(work: &mut Work, x: Scalars, moving: Row, target: u32) -> Scalars
+    ensures { x.moving ≡ moving → moved result work.new ≡ copy_one work.old x target }
 {
-    let k = make_row(work);
-    if k >= ROWS {
-        return x;
+    match make_row(work) {
+        Some(k) => copy_to(work, x, moving, k, target),
+        None => x,
     }
-    copy_to(work, x, k, target)
 }

@@ -1,48 +1,21 @@
 -- The two outputs of the call, pure: bytes copied to the front, two tapes end to end, and what is left where there is no room.
-use Rattle.machine.specs.All.{ℕ, ◌+◌, ◌-◌, ◌≤◌, ◌<◌, zero-add, arith, ◌≡◌, refl, sym, ap, ap₂, ◌∙◌, Bool, true, false, cond, ◌&&◌, List, ◌++◌, le-leb, lt-leb, leb-true, leb-false, leb, length, get_or, take, drop, length-append, sets, length-sets, take-length}
+use Rattle.machine.specs.All.{ℕ, ◌+◌, ◌≤◌, ◌<◌, arith, ◌≡◌, refl, sym, ap, ap₂, ◌∙◌, Bool, true, false, cond, ◌&&◌, List, ◌++◌, le-leb, lt-leb, leb-true, leb-false, leb, length, take, drop, length-append, sets, length-sets}
+use Rattle.std.proofs.Common.{Ok, Err}
 use Rattle.constants.specs.declared.model.Model.{Model}
-use Rattle.layout.specs.Layout as Layout
 use Rattle.codec.specs.Writing.{written}
-use Rattle.codec.proofs.Stores.{sets-append}
-use Rattle.join.specs.{declared.Joined.Joined, declared.Joined.TheVariants.Bytes, declared.Joined.TheVariants.Refused, Contract.Contract}
+use Rattle.constants.specs.{declared.refusals.Refusal.Refusal, Numbers.refusal_number}
+use Rattle.constants.specs.declared.refusals.Refusal.TheVariants.{NotJoinable, JoinRoom}
+use Rattle.join.specs.Contract.{Joined, Contract}
 use Rattle.join_laws.specs.{Rows.puts, Written.numbers_bytes, Joining.joined, Joining.refused, Joining.fitted}
-use Rattle.join_laws.specs.Whole.{kept_room, at_front_lem, may_join, may_join_tables, joined_tables, joined_bytes_lem}
-use Rattle.join.specs.{answer, model_left, tape_left}
+use Rattle.join_laws.specs.Whole.{kept_room, at_front_lem, may_join_tables, joined_tables, joined_bytes_lem}
+use Rattle.join.specs.{model_left, tape_left}
 use Rattle.join_laws.proofs.Fitting.{puts-front, front-sets}
 
 -- ---- Two tapes
 
-module _ (f s : List ℕ) (r : ℕ) where
-  pub no-room-first : r < length f → false ≡ leb (length (f ++ s)) r
-  no-room-first h = sym (lt-leb (length (f ++ s)) r (omega (arith, length-append f s)))
-
-  -- the room for both tapes is asked for in two steps, so that no sum can pass 64 bits
-  pub no-room-second : length f ≤ r → r - length f < length s → false ≡ leb (length (f ++ s)) r
-  no-room-second low h = sym (lt-leb (length (f ++ s)) r (omega (arith, length-append f s)))
-
-  -- both steps passed
-  pub room-both : length f ≤ r → length s ≤ r - length f → true ≡ leb (length (f ++ s)) r
-  room-both low h = sym (le-leb (length (f ++ s)) r (omega (arith, length-append f s)))
-
 pub sum_fits : (f s : List ℕ) (r : ℕ) → leb (length (f ++ s)) r ≡ true → r < 18446744073709551616
     → length f + length s < 18446744073709551616
 sum_fits f s r e h = omega (arith, length-append f s, leb-true (length (f ++ s)) r e)
-
-module _ (f s out : List ℕ) (h : length (f ++ s) ≤ length out) where
-  pub first-room : (length f ≤ length f) × (0 + length f ≤ length out)
-  first-room = (omega arith, omega (arith, length-append f s))
-
-  -- the second tape is copied behind the first
-  pub second-room : (between t : List ℕ) → between ≡ sets out 0 t → (length s ≤ length s) × (length f + length s ≤ length between)
-  second-room between t e = (omega arith, omega (arith, length-append f s, ap length e, length-sets out 0 t))
-
-  -- after both copies the two tapes stand end to end, and the bytes behind them as before
-  pub laid : (between after : List ℕ) → between ≡ sets out 0 (take (length f) f) → after ≡ sets between (length f) (take (length s) s)
-      → after ≡ f ++ s ++ drop (length (f ++ s)) out
-  laid between after e g =
-      g ∙ ap₂ (λ b t. sets b (length f) t) (e ∙ ap (sets out 0) (take-length f)) (take-length s)
-      ∙ ap (λ n. sets (sets out 0 f) n s) (sym (zero-add (length f))) ∙ sets-append f s out 0
-      ∙ front-sets (f ++ s) out h
 
 -- ---- The model
 
@@ -54,6 +27,10 @@ module _ (bytes out : List ℕ) where
   pub front-stored : length bytes ≤ length out → sets out 0 bytes ≡ at_front_lem bytes out
   unfolding at_front_lem
   front-stored h = rw (le-leb (length bytes) (length out) h) (front-sets bytes out h)
+
+  pub front-is : length bytes ≤ length out → bytes ++ drop (length bytes) out ≡ at_front_lem bytes out
+  unfolding at_front_lem
+  front-is h = rw (le-leb (length bytes) (length out) h) refl
 
   front_length : length (at_front_lem bytes out) ≡ length out
   front_length = go (leb (length bytes) (length out)) refl
@@ -71,11 +48,11 @@ module _ (l base out : List ℕ) (n : ℕ) (room : List ℕ) (e : written n room
       (f.size, front-left (numbers_bytes l) out (omega (arith, f.size)))
 
   -- one that fits stands at the front
-  pub model-copied : (after : List ℕ) → n ≤ length out → after ≡ sets out 0 (take n room)
+  pub model-copied : (after : List ℕ) → n ≤ length out → after ≡ take n room ++ drop n out
       → (n ≡ length (numbers_bytes l)) × (after ≡ at_front_lem (numbers_bytes l) out)
   model-copied after low g =
       let f = puts-front l base n room (omega arith) e in
-      (f.size, g ∙ ap (sets out 0) f.taken ∙ front-stored (numbers_bytes l) out (omega (arith, f.size)))
+      (f.size, g ∙ ap₂ (λ u k. u ++ drop k out) f.taken f.size ∙ front-is (numbers_bytes l) out (omega (arith, f.size)))
 
   pub copy-room : n ≤ length out → (n ≤ length room) × (0 + n ≤ length out)
   copy-room low = let f = puts-front l base n room (omega arith) e in (omega (arith, f.size, f.stays), omega arith)
@@ -84,15 +61,9 @@ module _ (l base out : List ℕ) (n : ℕ) (room : List ℕ) (e : written n room
 
 module _ (outModel outTape : List ℕ) where
   -- a refusal leaves both outputs as they were
-  pub left : (n : ℕ) → Contract outModel outTape (Refused n) outModel outTape (refused n)
-  unfolding answer model_left tape_left
-  left n = record { answered = refl; model-left = refl; tape-left = refl }
-
-module _ (tables₁ : List ℕ) (a : Model) (tables₂ : List ℕ) (b : Model) where
-  -- the editions stand in the tables, the other counts in the headers
-  pub may-join-asked : (x y : ℕ) (r : Bool) → x ≡ get_or tables₁ Layout.edition 0 → y ≡ get_or tables₂ Layout.edition 0 → r ≡ may_join a b x y
-      → may_join_tables tables₁ a tables₂ b ≡ r
-  may-join-asked x y r e f g = sym (g ∙ ap₂ (may_join a b) e f)
+  pub left : (d : Refusal) → Contract outModel outTape (Err d) outModel outTape (refused (refusal_number d))
+  unfolding model_left tape_left
+  left d = record { answered = refl; model-left = refl; tape-left = refl }
 
 module _ (tables₁ : List ℕ) (a : Model) (tables₂ : List ℕ) (b : Model) (tape₁ tape₂ outModel outTape : List ℕ) where
   abbrev Done : (r : Joined) (modelAfter tapeAfter : List ℕ) → Type 0
@@ -100,28 +71,28 @@ module _ (tables₁ : List ℕ) (a : Model) (tables₂ : List ℕ) (b : Model) (
       Contract outModel outTape r modelAfter tapeAfter (joined_tables tables₁ a tables₂ b tape₁ tape₂ (length outModel) (length outTape))
 
   -- the ways out of `pair`, in its order
-  pub not-joinable : may_join_tables tables₁ a tables₂ b ≡ false → Done (Refused 61) outModel outTape
+  pub not-joinable : may_join_tables tables₁ a tables₂ b ≡ false → Done (Err NotJoinable) outModel outTape
   unfolding joined_tables
-  not-joinable e = rw e (left outModel outTape 61)
+  not-joinable e = rw e (left outModel outTape NotJoinable)
 
   module _ (may : may_join_tables tables₁ a tables₂ b ≡ true) where
-    pub no-tape-room : leb (length (tape₁ ++ tape₂)) (length outTape) ≡ false → Done (Refused 62) outModel outTape
+    pub no-tape-room : leb (length (tape₁ ++ tape₂)) (length outTape) ≡ false → Done (Err JoinRoom) outModel outTape
     unfolding joined_tables fitted
     no-tape-room e = rw (may, e) (go (leb (length (joined_bytes_lem tables₁ a tables₂ b)) (length outModel)))
       where
         go : (x : Bool)
-            → Contract outModel outTape (Refused 62) outModel outTape
+            → Contract outModel outTape (Err JoinRoom) outModel outTape
             (cond (x && false) (joined (joined_bytes_lem tables₁ a tables₂ b) (tape₁ ++ tape₂)) (refused 62))
-        go true = left outModel outTape 62
-        go false = left outModel outTape 62
+        go true = left outModel outTape JoinRoom
+        go false = left outModel outTape JoinRoom
 
     module _ (modelAfter : List ℕ) (stored : modelAfter ≡ at_front_lem (joined_bytes_lem tables₁ a tables₂ b) outModel) where
       after : length modelAfter ≡ length outModel
       after = ap length stored ∙ front_length (joined_bytes_lem tables₁ a tables₂ b) outModel
 
       pub no-model-room : (n : ℕ) → n ≡ length (joined_bytes_lem tables₁ a tables₂ b) → length modelAfter < n
-          → Done (Refused 62) modelAfter outTape
-      unfolding joined_tables fitted at_front_lem answer model_left tape_left
+          → Done (Err JoinRoom) modelAfter outTape
+      unfolding joined_tables fitted at_front_lem model_left tape_left
       no-model-room n size h =
           let e = lt-leb (length (joined_bytes_lem tables₁ a tables₂ b)) (length outModel) (omega (arith, after)) in
           let same : modelAfter ≡ outModel = stored ∙ rw e refl in
@@ -130,11 +101,11 @@ module _ (tables₁ : List ℕ) (a : Model) (tables₂ : List ℕ) (b : Model) (
       pub both-written : (n k : ℕ) (tapeAfter : List ℕ) → n ≡ length (joined_bytes_lem tables₁ a tables₂ b) → n ≤ length modelAfter
           → leb (length (tape₁ ++ tape₂)) (length outTape) ≡ true
           → k ≡ length tape₁ + length tape₂ → tapeAfter ≡ tape₁ ++ tape₂ ++ drop (length (tape₁ ++ tape₂)) outTape
-          → Done (Bytes n k) modelAfter tapeAfter
-      unfolding joined_tables fitted at_front_lem answer model_left tape_left
+          → Done (Ok (n, k)) modelAfter tapeAfter
+      unfolding joined_tables fitted at_front_lem model_left tape_left
       both-written n k tapeAfter size low room len laid =
           let e = le-leb (length (joined_bytes_lem tables₁ a tables₂ b)) (length outModel) (omega (arith, after)) in
           let same : modelAfter ≡ joined_bytes_lem tables₁ a tables₂ b ++ drop (length (joined_bytes_lem tables₁ a tables₂ b)) outModel = stored
           ∙ rw e refl in
           rw (may, e, room)
-          (record { answered = ap₂ Bytes size (len ∙ sym (length-append tape₁ tape₂)); model-left = same; tape-left = laid })
+          (record { answered = ap₂ (λ x y. Ok (x, y)) size (len ∙ sym (length-append tape₁ tape₂)); model-left = same; tape-left = laid })

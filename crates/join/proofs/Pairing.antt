@@ -5,12 +5,13 @@ use Rattle.constants.specs.declared.model.Model.{Model}
 use Rattle.machine.proofs.Decoding.ProperFrom.{proper-from}
 use Rattle.layout.specs.All.{header_of, Represents}
 use Rattle.evaluation.proofs.NestedFrom.{nested-from}
-use Rattle.decode.specs.{declared.Decoded.Decoded as Answer, Decodes.Decodes}
-use Rattle.decode.specs.declared.Decoded.TheVariants as Decode
+use Rattle.std.proofs.Common.{Ok, Err}
+use Rattle.constants.specs.declared.refusals.Refusal.{Refusal}
+use Rattle.decode.specs.{Models.Decoded as Answer, Decodes.Decodes}
 use Rattle.decode.proofs.Told.{Told, decoded-refused, decoded-model}
 use Rattle.joined.specs.Join.{joinable}
 use Rattle.join_laws.specs.Written.{numbers_bytes}
-use Rattle.join.specs.{declared.Joined.Joined, declared.Joined.TheVariants.Refused, Contract.Contract}
+use Rattle.join.specs.Contract.{Joined, Contract}
 use Rattle.join_laws.specs.Joining.{refused, judged, fitted, joined_pair, join}
 use Rattle.join_laws.specs.Whole.{Fits, may_join, may_join_tables, joined_tables, Ready}
 use Rattle.join_laws.proofs.{Decoded.Decoded, Accepted.judged-decoded, JoinedRows.Table, JoinedRows.table, JoinedRows.rows_are, Fitting.joined-most}
@@ -80,25 +81,25 @@ module _ (model₁ tape₁ model₂ tape₂ : List ℕ) where
 
   module _ (tables₁ lists₁ : List ℕ) (r₁ : Answer) (d₁ : Asked model₁ tape₁ r₁ tables₁ lists₁) where
     -- the refusal of a part is that of the pair, the first part's first
-    pub first-refused : (outModel outTape : List ℕ) (n : ℕ) → r₁ ≡ Decode.Refused n → Done outModel outTape (Refused n) outModel outTape
+    pub first-refused : (outModel outTape : List ℕ) (d : Refusal) → r₁ ≡ Err d → Done outModel outTape (Err d) outModel outTape
     unfolding join joined_pair
-    first-refused outModel outTape n e =
-        rw (sym (validate-judged model₁ tape₁) ∙ decoded-refused tape₁ tables₁ lists₁ r₁ _ n d₁ e) (left outModel outTape n)
+    first-refused outModel outTape d e =
+        rw (sym (validate-judged model₁ tape₁) ∙ decoded-refused tape₁ tables₁ lists₁ r₁ _ d d₁ e) (left outModel outTape d)
 
-    module _ (a : Model) (e₁ : r₁ ≡ Decode.Model a) (tables₂ lists₂ : List ℕ) (r₂ : Answer)
+    module _ (a : Model) (e₁ : r₁ ≡ Ok a) (tables₂ lists₂ : List ℕ) (r₂ : Answer)
         (d₂ : Asked model₂ tape₂ r₂ tables₂ lists₂) where
       told₁ : Told tape₁ a tables₁ lists₁ (validate in_force model₁ tape₁ Limits.work_numbers Limits.report_room)
       told₁ = decoded-model tape₁ tables₁ lists₁ r₁ _ a d₁ e₁
 
-      pub second-refused : (outModel outTape : List ℕ) (n : ℕ) → r₂ ≡ Decode.Refused n → Done outModel outTape (Refused n) outModel outTape
+      pub second-refused : (outModel outTape : List ℕ) (d : Refusal) → r₂ ≡ Err d → Done outModel outTape (Err d) outModel outTape
       unfolding join joined_pair
-      second-refused outModel outTape n e =
+      second-refused outModel outTape d e =
           rw (
             sym (validate-judged model₁ tape₁) ∙ told₁.accepted,
-            sym (validate-judged model₂ tape₂) ∙ decoded-refused tape₂ tables₂ lists₂ r₂ _ n d₂ e,
-          ) (left outModel outTape n)
+            sym (validate-judged model₂ tape₂) ∙ decoded-refused tape₂ tables₂ lists₂ r₂ _ d d₂ e,
+          ) (left outModel outTape d)
 
-      module _ (b : Model) (e₂ : r₂ ≡ Decode.Model b) where
+      module _ (b : Model) (e₂ : r₂ ≡ Ok b) where
         told₂ : Told tape₂ b tables₂ lists₂ (validate in_force model₂ tape₂ Limits.work_numbers Limits.report_room)
         told₂ = decoded-model tape₂ tables₂ lists₂ r₂ _ b d₂ e₂
 

@@ -1,2 +1,3 @@
 pub mod Contract
+pub mod Forms
 unfoldable pub use Contract.*

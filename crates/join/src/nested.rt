@@ -5,14 +5,14 @@ ghost use Rattle.layout.specs.All.{tables_size};
 ghost use Rattle.codec.specs.Writing.{written};
 ghost use Rattle.join_laws.specs.Rows.{opened as openedTerms, signs_in, sign_at, item_at, items_from, value_row_lem, value_rows, Wrote, puts};
 
-use super::moving::emit;
+use super::moving::{Role, emit};
 use constants::Model;
 use join_laws::Shift;
-use layout::{VALUE_WIDTH, VALUES, number};
+use layout::{Tag, VALUE_WIDTH, VALUES, number};
 
-const VALUE_TAG: u32 = layout::VALUE_TAG as u32;
+const VALUE_TAG: u32 = Tag::Value as u32;
 
-const COMPARISON_TAG: u32 = layout::COMPARISON_TAG as u32;
+const COMPARISON_TAG: u32 = Tag::Comparison as u32;
 
 // Where reading and writing stand.
 #[derive(Clone, Copy)]
@@ -48,7 +48,7 @@ fn sign(tables: &[u32], from: usize, signs: usize, by: Shift, out: &mut [u8], to
     if signs == 0 {
         return to;
     }
-    emit(out, to, 0, number(tables, from), by)
+    emit(out, to, Role::Plain, number(tables, from), by)
 }
 
 // A term's sign, its tag and the number behind it.
@@ -58,8 +58,8 @@ fn item(tables: &[u32], from: usize, signs: usize, by: Shift, out: &mut [u8], to
 {
     let a = sign(tables, from, signs, by, out, to);
     let tag = number(tables, from + signs);
-    let b = emit(out, a, 0, tag, by);
-    emit(out, b, tag, number(tables, from + signs + 1), by)
+    let b = emit(out, a, Role::Plain, tag, by);
+    emit(out, b, Role::of(tag), number(tables, from + signs + 1), by)
 }
 
 // `left` terms from a place on, where `depth` brackets may still open.
@@ -120,7 +120,7 @@ fn value(tables: &[u32], at: usize, by: Shift, out: &mut [u8], to: usize) -> usi
     ensures { written result out.new ≡ puts (value_row_lem tables.now by at) (written to out.old) }
 {
     let count = number(tables, at);
-    let next = emit(out, to, 0, count, by);
+    let next = emit(out, to, Role::Plain, count, by);
     let whole = items(tables, at + 1, count, 1, Model::MAX_BRACKETS, by, out, next);
     whole.to
 }
@@ -130,11 +130,9 @@ pub fn values(tables: &[u32], count: usize, by: Shift, out: &mut [u8], to: usize
     requires { count ≤ max_values }
     ensures { written result out.new ≡ puts (value_rows tables.now by count 0) (written to out.old) }
 {
-    let mut k = 0;
     let mut next = to;
-    while k < count {
+    for k in 0..count {
         next = value(tables, VALUES + VALUE_WIDTH * k, by, out, next);
-        k += 1;
     }
     next
 }

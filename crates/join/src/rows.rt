@@ -1,133 +1,121 @@
-// Blocks and values of a part, from the tables, written as the joined model numbers them.
-ghost use Rattle.std.specs.Prelude.{◌≡◌, ◌+◌, ◌*◌, ◌≤◌, ◌<◌};
-ghost use Rattle.machine.specs.All.{max_blocks};
+// Blocks of a part, from the tables, written as the joined model numbers them.
+ghost use Rattle.std.specs.Prelude.{ℕ, ◌≡◌, ◌+◌, ◌*◌, ◌≤◌, ◌<◌};
+ghost use Rattle.machine.specs.All.{length, max_blocks};
+ghost use Rattle.constants.specs.Numbers.{kind_number};
 ghost use Rattle.layout.specs.All.{tables_size};
 ghost use Rattle.codec.specs.Writing.{written};
-ghost use Rattle.join_laws.specs.Rows.{shape_of, role_of, operand_at, operands_from, block_row, block_rows, puts};
+ghost use Rattle.join_laws.specs.Rows.{moved_by, shape_of, role_of, operand_at, operands_from, block_row, block_rows, puts};
+ghost use Rattle.join_laws.specs.declared.shift.Shift.{Shift as Moves};
+ghost use Rattle.join.specs.Forms.{role_number, form_number, digits_of};
 
-use super::moving::emit;
+use super::moving::{Role, emit};
+use constants::Kind;
 use join_laws::Shift;
 use layout::{BLOCK_WIDTH, number};
 
-// The most operands of a block, and how many forms an operand may have.
-const OPERANDS: usize = 6;
+// What an operand is: of one role, or as the tag or the code before it says.
+#[derive(Clone, Copy)]
+enum Form {
+    Is(Role),
+    ByTag,
+    ByCode,
+}
 
-const FORMS: u32 = 32;
+const PLAIN: Form = Form::Is(Role::Plain);
 
-// Forms of operands: one more than the role of the number.
-const PLAIN: u32 = 1;
+const PARAMETER: Form = Form::Is(Role::Parameter);
 
-const INDEX: u32 = 3;
+const QUEUE: Form = Form::Is(Role::Queue);
 
-const QUEUE: u32 = 6;
+const STORAGE: Form = Form::Is(Role::Server);
 
-const STORAGE: u32 = 7;
+const FACILITY: Form = Form::Is(Role::Facility);
 
-const FACILITY: u32 = 9;
+const LIST: Form = Form::Is(Role::List);
 
-const LIST: u32 = 13;
+const TARGET: Form = Form::Is(Role::Target);
 
-const TARGET: u32 = 14;
-
-// The number behind a tag, and the server behind a code.
-const BY_TAG: u32 = 15;
-
-const BY_CODE: u32 = 16;
-
-const SECOND: u32 = FORMS;
-
-const THIRD: u32 = SECOND * FORMS;
-
-const FOURTH: u32 = THIRD * FORMS;
-
-const FIFTH: u32 = FOURTH * FORMS;
-
-const SIXTH: u32 = FIFTH * FORMS;
-
-const GENERATE: u32 = LIST + PLAIN * SECOND;
-
-const UNITS: u32 = STORAGE + PLAIN * SECOND;
-
-const WATCHED: u32 = INDEX + BY_CODE * SECOND;
-
-const COMPARED: u32 = PLAIN + BY_TAG * SECOND + PLAIN * THIRD + PLAIN * FOURTH + BY_TAG * FIFTH;
-
-const BRANCH: u32 = COMPARED + TARGET * SIXTH;
-
-const ASSIGN: u32 = INDEX + PLAIN * SECOND + BY_TAG * THIRD;
-
-const SPLIT: u32 = PLAIN + TARGET * SECOND;
-
-const JOINED_WAIT: u32 = WATCHED + PLAIN * THIRD;
-
-// The operands of a kind, the first in the lowest digit.
-fn shape(kind: u32) -> u32
-    ensures { result ≡ shape_of kind }
+// The operands of a kind.
+fn shape(kind: Kind) -> &'static [Form]
+    ensures digits { digits_of result.now ≡ shape_of (kind_number kind) }
+    ensures most { length result.now ≤ 6 }
 {
     match kind {
-        1 => GENERATE,
-        2 => LIST,
-        3 => PLAIN,
-        4 => FACILITY,
-        5 => FACILITY,
-        6 => UNITS,
-        7 => UNITS,
-        8 => WATCHED,
-        9 => COMPARED,
-        10 => BRANCH,
-        11 => TARGET,
-        12 => ASSIGN,
-        13 => PLAIN,
-        14 => SPLIT,
-        15 => QUEUE,
-        16 => QUEUE,
-        17 => JOINED_WAIT,
-        18 => PLAIN,
-        _ => FACILITY,
+        Kind::Generate => &[LIST, PLAIN],
+        Kind::Advance => &[LIST],
+        Kind::Terminate => &[PLAIN],
+        Kind::Seize => &[FACILITY],
+        Kind::Release => &[FACILITY],
+        Kind::Enter => &[STORAGE, PLAIN],
+        Kind::Leave => &[STORAGE, PLAIN],
+        Kind::WaitServer => &[PARAMETER, Form::ByCode],
+        Kind::WaitTerms => &[PLAIN, Form::ByTag, PLAIN, PLAIN, Form::ByTag],
+        Kind::Branch => &[PLAIN, Form::ByTag, PLAIN, PLAIN, Form::ByTag, TARGET],
+        Kind::Goto => &[TARGET],
+        Kind::Assign => &[PARAMETER, PLAIN, Form::ByTag],
+        Kind::Priority => &[PLAIN],
+        Kind::Split => &[PLAIN, TARGET],
+        Kind::Arrive => &[QUEUE],
+        Kind::Depart => &[QUEUE],
+        Kind::JoinedWait => &[PARAMETER, Form::ByCode, PLAIN],
+        Kind::Assemble => &[PLAIN],
+        Kind::Preempt => &[FACILITY],
+        Kind::Return => &[FACILITY],
+    }
+}
+
+// Those of a number; one that is no kind has them as a RETURN.
+fn shape_by(kind: u32) -> &'static [Form]
+    ensures digits { digits_of result.now ≡ shape_of kind }
+    ensures most { length result.now ≤ 6 }
+{
+    match Kind::of(kind) {
+        Some(known) => shape(known),
+        None => &[FACILITY],
     }
 }
 
 // The role of an operand, with the number before it.
-fn role(form: u32, before: u32) -> u32
-    requires { 1 ≤ form }
-    ensures { result ≡ role_of form before }
+fn role(form: Form, before: u32) -> Role
+    ensures { (by : Moves) (n : ℕ) → moved_by by (role_number result) n ≡ moved_by by (role_of (form_number form) before) n }
 {
-    if form == BY_TAG {
-        return before;
-    }
-    if form == BY_CODE {
-        if before < 2 {
-            return FACILITY - 1;
+    match form {
+        Form::Is(role) => role,
+        Form::ByTag => Role::of(before),
+        Form::ByCode => {
+            if before < 2 {
+                Role::Facility
+            } else {
+                Role::Server
+            }
         }
-        return STORAGE - 1;
     }
-    form - 1
 }
 
-// One operand; none of form 0.
-fn operand(tables: &[u32], at: usize, form: u32, by: Shift, out: &mut [u8], to: usize) -> usize
+// One operand.
+fn operand(tables: &[u32], at: usize, form: Form, by: Shift, out: &mut [u8], to: usize) -> usize
     requires { 1 ≤ at }
-    ensures { written result out.new ≡ puts (operand_at tables.now by at form) (written to out.old) }
+    ensures { written result out.new ≡ puts (operand_at tables.now by at (form_number form)) (written to out.old) }
 {
-    if form == 0 {
-        return to;
-    }
-    let role = role(form, number(tables, at - 1));
-    emit(out, to, role, number(tables, at), by)
+    let named = role(form, number(tables, at - 1));
+    emit(out, to, named, number(tables, at), by)
 }
 
 // The operands from a place on.
-fn operands(tables: &[u32], at: usize, forms: u32, by: Shift, out: &mut [u8], to: usize) -> usize
-    requires { (1 ≤ at) × (at ≤ tables_size) }
-    ensures { written result out.new ≡ puts (operands_from tables.now by 6 at forms) (written to out.old) }
+fn operands(
+    tables: &[u32],
+    at: usize,
+    forms: &[Form],
+    by: Shift,
+    out: &mut [u8],
+    to: usize,
+) -> usize
+    requires { (1 ≤ at) × (at ≤ tables_size) × (length forms.now ≤ 6) }
+    ensures { written result out.new ≡ puts (operands_from tables.now by 6 at (digits_of forms.now)) (written to out.old) }
 {
     let mut next = to;
-    let mut rest = forms;
-    let mut i = 0;
-    while i < OPERANDS {
-        next = operand(tables, at + i, rest % FORMS, by, out, next);
-        rest /= FORMS;
-        i += 1;
+    for (i, form) in forms.iter().enumerate() {
+        next = operand(tables, at + i, *form, by, out, next);
     }
     next
 }
@@ -138,8 +126,8 @@ fn block(tables: &[u32], at: usize, by: Shift, out: &mut [u8], to: usize) -> usi
     ensures { written result out.new ≡ puts (block_row tables.now by at) (written to out.old) }
 {
     let kind = number(tables, at);
-    let next = emit(out, to, 0, kind, by);
-    operands(tables, at + 1, shape(kind), by, out, next)
+    let next = emit(out, to, Role::Plain, kind, by);
+    operands(tables, at + 1, shape_by(kind), by, out, next)
 }
 
 // The first `count` blocks.
@@ -147,11 +135,9 @@ pub fn blocks(tables: &[u32], count: usize, by: Shift, out: &mut [u8], to: usize
     requires { count ≤ max_blocks }
     ensures { written result out.new ≡ puts (block_rows tables.now by count 0) (written to out.old) }
 {
-    let mut b = 0;
     let mut next = to;
-    while b < count {
+    for b in 0..count {
         next = block(tables, BLOCK_WIDTH * b, by, out, next);
-        b += 1;
     }
     next
 }

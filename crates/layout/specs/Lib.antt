@@ -1,4 +1,5 @@
 pub mod Layout
+pub mod Tags
 pub mod Numbers
 pub mod Represents
 pub mod Forms

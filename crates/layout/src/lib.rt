@@ -6,7 +6,10 @@
 ghost use Rattle.std.specs.Prelude.{◌≡◌};
 ghost use Rattle.machine.specs.All.{get_or, set};
 
+mod tag;
+
 use constants::Model;
+pub use tag::Tag;
 
 // The facilities, then the storages.
 pub const SERVERS: usize = Model::MAX_FACILITIES + Model::MAX_STORAGES;
@@ -110,31 +113,51 @@ pub const LIST_COUNTS: usize = Model::MAX_LISTS;
 
 pub const LIST_CELLS: usize = 32;
 
-// The number at an index of the tables; 0 past their end.
-pub fn number(tables: &[u32], at: usize) -> u32
-    ensures { result ≡ get_or tables.now at 0 }
+// A number of the tables (32 bits) or of the tally (64 bits), and what is read past the end of them.
+pub trait Cell: Copy {
+    ghost ZERO: { Self };
+
+    const ZERO: Self;
+}
+
+impl Cell for u32 {
+    ghost ZERO = { 0 };
+
+    const ZERO: u32 = 0;
+}
+
+impl Cell for u64 {
+    ghost ZERO = { 0 };
+
+    const ZERO: u64 = 0;
+}
+
+// The number at an index of the tables or the tally; 0 past their end.
+pub fn number<T: Cell>(l: &[T], at: usize) -> T
+    ensures { result ≡ get_or l.now at T.ZERO }
 {
-    if at < tables.len() {
-        return tables[at];
-    }
-    0
+    l.get(at).copied().unwrap_or(T::ZERO)
 }
 
 // The number at an index of the tally; 0 past its end.
 pub fn count(tally: &[u64], at: usize) -> u64
     ensures { result ≡ get_or tally.now at 0 }
 {
-    if at < tally.len() {
-        return tally[at];
+    number(tally, at)
+}
+
+// Stores a number at an index; nothing past the end.
+pub fn store<T: Cell>(l: &mut [T], at: usize, x: T)
+    ensures { l.new ≡ set l.old at x }
+{
+    if at < l.len() {
+        l[at] = x;
     }
-    0
 }
 
 // Stores a number at an index of the tally; nothing past its end.
 pub fn set_count(tally: &mut [u64], at: usize, x: u64)
     ensures { tally.new ≡ set tally.old at x }
 {
-    if at < tally.len() {
-        tally[at] = x;
-    }
+    store(tally, at, x);
 }

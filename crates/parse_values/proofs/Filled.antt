@@ -1,8 +1,11 @@
 -- Filled, pure: one more row in front of those to come, and what stands where after all of them were stored.
 use Rattle.machine.specs.All.{clash, ℕ, zero, suc, ◌+◌, ◌*◌, ◌-◌, ◌≤◌, ◌<◌, add-one, arith, ◌≡◌, refl, ap, fun_ext, List, [], ◌∷◌, length, get_or, sets, Cursor, Parsed, parsed, refused, Parser, continue, times, Counts, value_field, value_fields, in_value, sym, ◌∙◌, Sum}
 use native.Mathlib.Nat.{mul-suc, mul-zero}
-use Rattle.parse_values.specs.{declared.Place.Place, declared.Stored.Stored, declared.Stored.TheVariants.Done, declared.Stored.TheVariants.Refused, Filled.Filled}
-use Rattle.parse_values.specs.{cursor_of, place_of, Shape, Stores, rows_field, all_named, stored_rows, Each}
+use Rattle.std.specs.Prelude.{Ok, Err, IsErrAnd}
+use Rattle.std.proofs.lemmas.Result.{err_from_is_err_and}
+use Rattle.constants.specs.{declared.refusals.Refusal.Refusal, Numbers.refusal_number}
+use Rattle.parse_values.specs.{declared.Place.Place, Filled.Filled}
+use Rattle.parse_values.specs.{cursor_of, place_of, Stored, Shape, Stores, rows_field, all_named, stored_rows, Each}
 use Rattle.parse_values.proofs.Binds.{stores-stop, stores_bind}
 
 -- ---- The machine's counted parsers are rows
@@ -27,21 +30,21 @@ values-rows s n (suc left) k c =
 module _ {A : Type 0} (sh : Shape A) (holds : A → Type 0) (p : ℕ → Parser A) (w : ℕ) where
   -- no rows left
   pub rows_none : (left k at : ℕ) (q : Place) (l : List ℕ) → left ≡ 0
-      → Filled sh holds w at q l l (Done q) (rows_field p left k (cursor_of q))
+      → Filled sh holds w at q l l (Ok q) (rows_field p left k (cursor_of q))
   unfolding rows_field
   rows_none left k at q l e = rw e (record { held = (refl, refl, tt) })
 
   module _ {left k at : ℕ} {q : Place} {l l₁ : List ℕ} {r₁ : Stored} (some : left ≡ 0 → ⊥)
       (k₁ : Stores sh q at l l₁ r₁ (p k (cursor_of q))) where
     -- a row that fails stops the others
-    pub rows-stop : {n : ℕ} (after : List ℕ) → r₁ ≡ Refused n → Filled sh holds w at q l after (Refused n) (rows_field p left k (cursor_of q))
+    pub rows-stop : {d : Refusal} (after : List ℕ) → r₁ ≡ Err d → Filled sh holds w at q l after (Err d) (rows_field p left k (cursor_of q))
     unfolding rows_field
     rows-stop after told =
         let e : left ≡ suc (left - 1) = omega arith in
         rw e (stores-stop (Filled _ _ _ _ _ _ _ _) _ _ k₁ told (record { held = refl }))
 
     -- one row, and the others behind it
-    pub rows_step : {next : Place} {after : List ℕ} {r : Stored} → r₁ ≡ Done next → ((a : A) → sh.fact q a (cursor_of next) → holds a) →
+    pub rows_step : {next : Place} {after : List ℕ} {r : Stored} → r₁ ≡ Ok next → ((a : A) → sh.fact q a (cursor_of next) → holds a) →
         Filled sh holds w (at + w) next l₁ after r (rows_field p (left - 1) (suc k) (cursor_of next)) →
         Filled sh holds w at q l after r (rows_field p left k (cursor_of q))
     unfolding rows_field continue
@@ -75,17 +78,17 @@ module _ {A : Type 0} (sh : Shape A) (holds : A → Type 0) (p : ℕ → Parser 
   Leads q₀ cells₀ k q cells = (after : List ℕ) (r : Stored) → From k q cells after r → From 0 q₀ cells₀ after r
 
   -- the loop that fills them, from row k on: none left,
-  pub from-none : (k : ℕ) (q : Place) (l : List ℕ) → total ≤ k → From k q l l (Done q)
+  pub from-none : (k : ℕ) (q : Place) (l : List ℕ) → total ≤ k → From k q l l (Ok q)
   from-none k q l h = rows_none sh holds p w (total - k) k (base + w * k) q l (omega arith)
 
   module _ {k : ℕ} {q : Place} {l l₁ : List ℕ} {r₁ : Stored} (some : k < total)
       (k₁ : Stores sh q (base + w * k) l l₁ r₁ (p k (cursor_of q))) where
     -- one that fails,
-    pub from-stop : {n : ℕ} (after : List ℕ) → r₁ ≡ Refused n → From k q l after (Refused n)
+    pub from-stop : {d : Refusal} (after : List ℕ) → r₁ ≡ Err d → From k q l after (Err d)
     from-stop after told = rows-stop sh holds p w (λ e. omega arith) k₁ after told
 
     -- one that is stored,
-    pub from_step : {next : Place} → r₁ ≡ Done next → ((a : A) → sh.fact q a (cursor_of next) → holds a) →
+    pub from_step : {next : Place} → r₁ ≡ Ok next → ((a : A) → sh.fact q a (cursor_of next) → holds a) →
         (after : List ℕ) (r : Stored) → From (k + 1) next l₁ after r → From k q l after r
     from_step {next} told h after r rest =
         let at : base + w * (k + 1) ≡ base + w * k + w = omega (arith, mul-suc w k, ap (λ (i : ℕ). w * i) (add-one k)) in
@@ -102,21 +105,27 @@ module _ {A : Type 0} (sh : Shape A) (holds : A → Type 0) (p : ℕ → Parser 
 
 -- ---- After a loop over rows
 
+pub rows_passed : {A : Type 0} {sh : Shape A} {holds : A → Type 0} {w at : ℕ} {p : Place} {cells after : List ℕ} {r : Stored}
+    {P : Parsed (List A)} {d : Refusal} →
+    IsErrAnd r (λ x. x ≡ d) → Filled sh holds w at p cells after (Err d) P → Filled sh holds w at p cells after r P
+rows_passed {r = r} given k = let e = err_from_is_err_and r given in rw (e.1, e.2) k
+
 module _ {A : Type 0} {sh : Shape A} {holds : A → Type 0} {w at : ℕ} {p : Place} {cells after : List ℕ} {r : Stored} where
   -- rows that stop give the parser's refusal
-  pub rows-refused : (P : Parsed (List A)) {n : ℕ} → Filled sh holds w at p cells after r P → r ≡ Refused n → P ≡ refused n
+  pub rows-refused : (P : Parsed (List A)) {d : Refusal} → Filled sh holds w at p cells after r P → r ≡ Err d
+      → P ≡ refused (refusal_number d)
   rows-refused (parsed l c) k told = let e = sym told ∙ k.held.0 in clash (cc)
-  rows-refused (refused m) {n} k told = let e = sym told ∙ k.held in let f : m ≡ n = cc in ap refused f
+  rows-refused (refused m) k told = ap refused (sym (rw told at k.held))
 
   module _ {B : Type 0} (G : Parsed B → Type 0) where
-    pub rows_end : (P : Parsed (List A)) (f : List A → Parser B) {n : ℕ} → Filled sh holds w at p cells after r P → r ≡ Refused n
-        → G (refused n) →
+    pub rows_end : (P : Parsed (List A)) (f : List A → Parser B) {d : Refusal} → Filled sh holds w at p cells after r P → r ≡ Err d
+        → G (refused (refusal_number d)) →
         G (continue P f)
     unfolding continue
     rows_end P f k told s = rw (rows-refused P k told) s
 
     -- rows that are stored hand their list to what follows
-    pub rows_bind : (P : Parsed (List A)) (f : List A → Parser B) {q : Place} → Filled sh holds w at p cells after r P → r ≡ Done q →
+    pub rows_bind : (P : Parsed (List A)) (f : List A → Parser B) {q : Place} → Filled sh holds w at p cells after r P → r ≡ Ok q →
         ((l : List A) → P ≡ parsed l (cursor_of q) → q.named ≡ all_named sh.named p.named l
         → after ≡ stored_rows sh.numbers w at l cells →
         Each holds l → G (f l (cursor_of q))) → G (continue P f)
@@ -125,7 +134,7 @@ module _ {A : Type 0} {sh : Shape A} {holds : A → Type 0} {w at : ℕ} {p : Pl
         let e = sym told ∙ k.held.0 in
         let eq : q ≡ place_of c (all_named sh.named p.named l) = cc in
         (rw eq at (g l)) refl refl k.held.1 k.held.2
-    rows_bind (refused m) f {q} k told g = let e = sym told ∙ k.held in clash (cc)
+    rows_bind (refused m) f k told g = absurd (rw told at k.held)
 
 -- as many things as were asked for
 pub rows-length : {A : Type 0} (p : ℕ → Parser A) (left k : ℕ) (c : Cursor) (l : List A) (d : Cursor) → rows_field p left k c ≡ parsed l d

@@ -1,10 +1,12 @@
 -- What each function of the crate keeps, pure: from what its calls kept, by the definitions of the machine's parsers.
-use Rattle.machine.specs.All.{clash, ℕ, zero, suc, ◌+◌, ◌-◌, ◌≤◌, ◌<◌, max, arith, ◌≡◌, refl, ap, ◌∙◌, Bool, true, false, cond, ◌&&◌, List, [], ◌∷◌, ◌++◌, eqb, T, length, drop, set, length-append, sets, lt-ltb, le-ltb, eq-eqb, ne_eqb, eqb-true, eqb-false, Cursor, Parsed, parsed, refused, Parser, continue, field, Term, value, comparison, bracket, Sum, plus, minus, Counts, value_number, counted, mentioned, comparison_field, bracket_field, sum_field, sum_terms, tagged_term, value_term, value_field, block_term, sym, relation_of, simple_term}
-use Rattle.codec.specs.{declared.Field.Field, Answers.parsed_of}
-use Rattle.codec.specs.declared.Field.TheVariants.{Value, Refused as NoField}
+use Rattle.machine.specs.All.{ℕ, zero, suc, ◌+◌, ◌-◌, ◌≤◌, ◌<◌, max, arith, ◌≡◌, refl, ap, ◌∙◌, Bool, true, false, cond, ◌&&◌, List, [], ◌∷◌, ◌++◌, eqb, T, length, drop, set, length-append, sets, lt-ltb, le-ltb, eq-eqb, ne_eqb, eqb-true, eqb-false, Cursor, Parsed, parsed, refused, Parser, continue, field, Term, value, comparison, bracket, Sum, plus, minus, Counts, value_number, counted, mentioned, comparison_field, bracket_field, sum_field, sum_terms, tagged_term, value_term, value_field, block_term, sym, relation_of, simple_term}
+use Rattle.std.specs.Prelude.{Result, Ok, Err}
+use Rattle.constants.specs.{declared.refusals.Refusal.Refusal}
+use Rattle.constants.specs.declared.refusals.Refusal.TheVariants.{LargeValue}
+use Rattle.codec.specs.Answers.{parsed_of}
 use Rattle.layout.specs.All.{term_numbers, signed_terms, sum_numbers, terms, relation_number, small_term, small_sum}
-use Rattle.parse_values.specs.{declared.Place.Place, declared.Taken.Taken, declared.Taken.TheVariants.Number, declared.Taken.TheVariants.Refused as NotTaken, declared.Stored.Stored, declared.Stored.TheVariants.Done, declared.Stored.TheVariants.Refused}
-use Rattle.parse_values.specs.{cursor_of, place_of, Shape, Takes, Stores, plain_shape, number_shape, counted_shape, range_of, term_of, operand_field, term_named, sum_named, term_shape, operand_shape, sum_shape, terms_shape, value_shape, block_term_shape}
+use Rattle.parse_values.specs.declared.Place.{Place}
+use Rattle.parse_values.specs.{cursor_of, place_of, Taken, Stored, Shape, Takes, Stores, plain_shape, number_shape, counted_shape, range_of, term_of, operand_field, term_named, sum_named, term_shape, operand_shape, sum_shape, terms_shape, value_shape, block_term_shape}
 use Rattle.parse_values.proofs as our
 use our.Binds.{takes-refused, takes-known, takes-stop, takes_bind, stores-stop, stores_bind, stores-last, stores_as}
 use our.Tags.{block-operand, value-operand, operand-numbers, operand-named, operand_small, relation-number}
@@ -26,64 +28,49 @@ both false b s t = s
 
 -- ---- Numbers
 
-module _ {p : Place} {r : Field} {P : Parsed ℕ} (e : parsed_of p.numbers p.mentions r ≡ P) where
+module _ {p : Place} {r : Result (ℕ × ℕ) Refusal} {P : Parsed ℕ} (e : parsed_of p.numbers p.mentions r ≡ P) where
   -- a number outside its range is not taken
-  pub number-refused : {n : ℕ} (sh : Shape ℕ) → r ≡ NoField n → Takes sh p 0 [] [] (NotTaken n) P
+  pub number-refused : {d : Refusal} (sh : Shape ℕ) → r ≡ Err d → Takes sh p 0 [] [] (Err d) P
   unfolding parsed_of
   number-refused sh told = rw (← e, told) (record { held = refl })
 
-  pub number_read : {v next lo hi : ℕ} → r ≡ Value v next → lo ≤ v → v ≤ hi →
+  pub number_read : {v next lo hi : ℕ} → r ≡ Ok (v, next) → lo ≤ v → v ≤ hi →
       Takes (plain_shape lo hi) p 0 [] []
-      (Number v (record { position = next; numbers = p.numbers; mentions = p.mentions; named = p.named })) P
+      (Ok (v, record { position = next; numbers = p.numbers; mentions = p.mentions; named = p.named })) P
   unfolding parsed_of
   number_read told l h = rw (← e, told) (record { held = (refl, refl, (l, h, refl)) })
 
-pub taken-number : {v n : ℕ} {q : Place} → NotTaken n ≡ Number v q → ⊥
-taken-number {v} {n} {q} e = clash (cc)
-
--- a number that is taken lies in its range
-pub taken-range : {lo hi v w : ℕ} {p q : Place} → lo ≤ v → v ≤ hi → Number v p ≡ Number w q → (lo ≤ w) × (w ≤ hi)
-taken-range {lo} {hi} {v} {w} {p} {q} l h e = let ev : v ≡ w = cc in (rw (← ev) l, rw (← ev) h)
-
--- and the count of numbers stays
-pub number-range : {lo hi v w n : ℕ} {p q : Place} → lo ≤ v → v ≤ hi → p.numbers ≡ n → Number v p ≡ Number w q →
-    (lo ≤ w) × (w ≤ hi) × (q.numbers ≡ n)
-number-range {lo} {hi} {v} {w} {n} {p} {q} l h m e =
-    let ev : v ≡ w = cc in
-    let eq : p ≡ q = cc in
-    (rw (← ev) l, rw (← ev) h, rw (← eq) m)
-
 module _ {sh : Shape ℕ} {p : Place} {to : ℕ} {cells after : List ℕ} {r : Taken} {P : Parsed ℕ} (k : Takes sh p to cells after r P) where
   -- nothing is stored where the number is not taken
-  pub keep-refused : {n : ℕ} (sh' : Shape ℕ) (p' : Place) (to' : ℕ) (cells' after' : List ℕ) → r ≡ NotTaken n
-      → Takes sh' p' to' cells' after' (NotTaken n) P
+  pub keep-refused : {d : Refusal} (sh' : Shape ℕ) (p' : Place) (to' : ℕ) (cells' after' : List ℕ) → r ≡ Err d
+      → Takes sh' p' to' cells' after' (Err d) P
   keep-refused sh' p' to' cells' after' told = rw (takes-refused P k told) (record { held = refl })
 
 module _ {p : Place} {lo hi : ℕ} {r : Taken} {P : Parsed ℕ} (k : Takes (plain_shape lo hi) p 0 [] [] r P) where
   -- it is stored as it is, less the range's begin, above a given number
-  pub keep-read : {v : ℕ} {q : Place} (above to : ℕ) (l : List ℕ) → r ≡ Number v q →
-      Takes (number_shape lo hi above) p to l (set l to (above + (v - lo))) (Number v q) P
+  pub keep-read : {v : ℕ} {q : Place} (above to : ℕ) (l : List ℕ) → r ≡ Ok (v, q) →
+      Takes (number_shape lo hi above) p to l (set l to (above + (v - lo))) (Ok (v, q)) P
   keep-read {v} {q} above to l told =
       takes-known (Takes _ _ _ _ _ _) P k told
-      (λ named cells fact. record { held = (ap (λ (n : ℕ). Number v (place_of (cursor_of q) n)) named, refl, fact) })
+      (λ named cells fact. record { held = (ap (λ (n : ℕ). Ok (v, place_of (cursor_of q) n)) named, refl, fact) })
 
 module _ (s : List ℕ) {p : Place} {lo hi : ℕ} {r : Taken} (k : Takes (plain_shape lo hi) p 0 [] [] r (field s 3 lo hi (cursor_of p))) where
-  pub counted-refused : {n : ℕ} (sh : Shape ℕ) (to : ℕ) (cells after : List ℕ) → r ≡ NotTaken n
-      → Takes sh p to cells after (NotTaken n) (value_number s lo hi (cursor_of p))
+  pub counted-refused : {d : Refusal} (sh : Shape ℕ) (to : ℕ) (cells after : List ℕ) → r ≡ Err d
+      → Takes sh p to cells after (Err d) (value_number s lo hi (cursor_of p))
   unfolding value_number
   counted-refused sh to cells after told = takes-stop (Takes _ _ _ _ _ _) _ _ k told (record { held = refl })
 
   -- question 5: a value of more than 64 numbers
-  pub counted-past : {v : ℕ} {q : Place} (sh : Shape ℕ) (to : ℕ) (cells after : List ℕ) → r ≡ Number v q → 64 ≤ q.numbers →
-      Takes sh p to cells after (NotTaken 5) (value_number s lo hi (cursor_of p))
+  pub counted-past : {v : ℕ} {q : Place} (sh : Shape ℕ) (to : ℕ) (cells after : List ℕ) → r ≡ Ok (v, q) → 64 ≤ q.numbers →
+      Takes sh p to cells after (Err LargeValue) (value_number s lo hi (cursor_of p))
   unfolding value_number counted
   counted-past sh to cells after told h =
       takes_bind (Takes _ _ _ _ _ _) _ _ k told (λ named kept fact. rw (le-ltb _ _ h) (record { held = refl }))
 
   -- the number is stored at the value's next cell
-  pub counted-read : {v : ℕ} {q : Place} (above base : ℕ) (l : List ℕ) → r ≡ Number v q → q.numbers < 64 →
+  pub counted-read : {v : ℕ} {q : Place} (above base : ℕ) (l : List ℕ) → r ≡ Ok (v, q) → q.numbers < 64 →
       Takes (counted_shape lo hi above) p (base + p.numbers) l (set l (base + q.numbers) (above + (v - lo)))
-      (Number v (record { position = q.position; numbers = q.numbers + 1; mentions = q.mentions; named = q.named }))
+      (Ok (v, record { position = q.position; numbers = q.numbers + 1; mentions = q.mentions; named = q.named }))
       (value_number s lo hi (cursor_of p))
   unfolding value_number counted
   counted-read {v} {q} above base l told h =
@@ -92,7 +79,7 @@ module _ (s : List ℕ) {p : Place} {lo hi : ℕ} {r : Taken} (k : Takes (plain_
       rw (lt-ltb _ _ h, fact.2, named)
       (record {
         held = (
-          ap (λ (n : ℕ). Number v (record { position = q.position; numbers = n; mentions = q.mentions; named = p.named }))
+          ap (λ (n : ℕ). Ok (v, record { position = q.position; numbers = n; mentions = q.mentions; named = p.named }))
               (omega arith),
           refl,
           (fact.0, fact.1, refl, omega arith),
@@ -104,15 +91,15 @@ module _ (s : List ℕ) {p : Place} {lo hi : ℕ} {r : Taken} (k : Takes (plain_
 module _ (s : List ℕ) (n : Counts) {p : Place} {to : ℕ} {l₀ l₁ : List ℕ} {r₁ : Taken}
     (k₁ : Takes (number_shape 0 9 0) p to l₀ l₁ r₁ (field s 3 0 9 (cursor_of p))) where
   -- the tag of a block's term fails
-  pub block-stop : {m : ℕ} (after : List ℕ) → r₁ ≡ NotTaken m → Stores block_term_shape p to l₀ after (Refused m) (block_term s n (cursor_of p))
+  pub block-stop : {d : Refusal} (after : List ℕ) → r₁ ≡ Err d → Stores block_term_shape p to l₀ after (Err d) (block_term s n (cursor_of p))
   unfolding block_term
   block-stop after told = takes-stop (Stores _ _ _ _ _ _) _ _ k₁ told (record { held = refl })
 
-  module _ {tag : ℕ} {q : Place} {l₂ : List ℕ} {r₂ : Taken} (told₁ : r₁ ≡ Number tag q)
+  module _ {tag : ℕ} {q : Place} {l₂ : List ℕ} {r₂ : Taken} (told₁ : r₁ ≡ Ok (tag, q))
       (k₂ : Takes (number_shape (range_of n tag).lo (range_of n tag).hi (range_of n tag).plus) q (to + 1) l₁ l₂ r₂
       (field s 3 (range_of n tag).lo (range_of n tag).hi (cursor_of q))) where
     -- its number fails
-    pub block-stop-2 : {m : ℕ} → r₂ ≡ NotTaken m → Stores block_term_shape p to l₀ l₂ (Refused m) (block_term s n (cursor_of p))
+    pub block-stop-2 : {d : Refusal} → r₂ ≡ Err d → Stores block_term_shape p to l₀ l₂ (Err d) (block_term s n (cursor_of p))
     unfolding block_term
     block-stop-2 told =
         takes_bind (Stores _ _ _ _ _ _) _ _ k₁ told₁
@@ -120,8 +107,8 @@ module _ (s : List ℕ) (n : Counts) {p : Place} {to : ℕ} {l₀ l₁ : List �
         rw (block-operand n s (cursor_of q) tag fact.1) (takes-stop (Stores _ _ _ _ _ _) _ _ k₂ told (record { held = refl })))
 
     -- tag and number
-    pub block_read : {v : ℕ} {after : Place} → r₂ ≡ Number v after
-        → Stores block_term_shape p to l₀ l₂ (Done after) (block_term s n (cursor_of p))
+    pub block_read : {v : ℕ} {after : Place} → r₂ ≡ Ok (v, after)
+        → Stores block_term_shape p to l₀ l₂ (Ok after) (block_term s n (cursor_of p))
     unfolding block_term
     block_read {v} {after} told =
         takes_bind (Stores _ _ _ _ _ _) _ _ k₁ told₁
@@ -133,7 +120,7 @@ module _ (s : List ℕ) (n : Counts) {p : Place} {to : ℕ} {l₀ l₁ : List �
         let t : 0 + (tag - 0) ≡ tag = omega arith in
         record {
           held = (
-            ap (λ (m : ℕ). Done (place_of (cursor_of after) m)) (named₂ ∙ named₁),
+            ap (λ (m : ℕ). Ok (place_of (cursor_of after) m)) (named₂ ∙ named₁),
             rw e (sets_then l₀ (tag ∷ []) (((range_of n tag).plus + (v - (range_of n tag).lo)) ∷ []) to (to + 1) (rw t at cells₁) cells₂ refl),
             (ap length e, operand_small n v tag fact₁.1 (fact₂.0, fact₂.1)),
           );
@@ -144,14 +131,14 @@ module _ (s : List ℕ) (n : Counts) {p : Place} {to : ℕ} {l₀ l₁ : List �
 module _ (s : List ℕ) (n : Counts) (tag base : ℕ) (h : tag ≤ 9) {p : Place} {l₀ l₁ : List ℕ} {r₁ : Taken}
     (k : Takes (counted_shape (range_of n tag).lo (range_of n tag).hi (range_of n tag).plus) p (base + p.numbers) l₀ l₁ r₁
     (value_number s (range_of n tag).lo (range_of n tag).hi (cursor_of p))) where
-  pub operand-stop : {m : ℕ} → r₁ ≡ NotTaken m
-      → Stores (operand_shape tag) p (base + p.numbers) l₀ l₁ (Refused m) (operand_field s n tag (cursor_of p))
+  pub operand-stop : {d : Refusal} → r₁ ≡ Err d
+      → Stores (operand_shape tag) p (base + p.numbers) l₀ l₁ (Err d) (operand_field s n tag (cursor_of p))
   operand-stop told = rw (value-operand n s (cursor_of p) tag h) (takes-stop (Stores _ _ _ _ _ _) _ _ k told (record { held = refl }))
 
-  module _ {v : ℕ} {q : Place} (told : r₁ ≡ Number v q) where
+  module _ {v : ℕ} {q : Place} (told : r₁ ≡ Ok (v, q)) where
     -- question 5: a third mention of values
     pub operand_third : tag ≡ 9 → 2 ≤ q.mentions
-        → Stores (operand_shape tag) p (base + p.numbers) l₀ l₁ (Refused 5) (operand_field s n tag (cursor_of p))
+        → Stores (operand_shape tag) p (base + p.numbers) l₀ l₁ (Err LargeValue) (operand_field s n tag (cursor_of p))
     unfolding mentioned continue
     operand_third e m =
         rw (value-operand n s (cursor_of p) tag h)
@@ -161,7 +148,7 @@ module _ (s : List ℕ) (n : Counts) (tag base : ℕ) (h : tag ≤ 9) {p : Place
     kept : (c : Cursor) (r : Stored) → q.named ≡ p.named
         → l₁ ≡ sets l₀ (base + p.numbers) (((range_of n tag).plus + (v - (range_of n tag).lo)) ∷ []) →
         ((range_of n tag).lo ≤ v) × (v ≤ (range_of n tag).hi) × (q.numbers ≡ suc p.numbers) × (p.numbers < 64) →
-        c.numbers ≡ q.numbers → r ≡ Done (place_of c (cond (eqb tag 4) (max p.named v) p.named)) →
+        c.numbers ≡ q.numbers → r ≡ Ok (place_of c (cond (eqb tag 4) (max p.named v) p.named)) →
         Stores (operand_shape tag) p (base + p.numbers) l₀ l₁ r (parsed (term_of n tag v) c)
     kept c r named cells fact m a =
         let e = operand-numbers n v tag h (fact.0, fact.1) in
@@ -179,7 +166,7 @@ module _ (s : List ℕ) (n : Counts) (tag base : ℕ) (h : tag ≤ 9) {p : Place
 
     pub operand_mention : tag ≡ 9 → q.mentions < 2 →
         Stores (operand_shape tag) p (base + p.numbers) l₀ l₁
-        (Done (record { position = q.position; numbers = q.numbers; mentions = q.mentions + 1; named = q.named }))
+        (Ok (record { position = q.position; numbers = q.numbers; mentions = q.mentions + 1; named = q.named }))
         (operand_field s n tag (cursor_of p))
     unfolding mentioned continue
     operand_mention e m =
@@ -191,51 +178,49 @@ module _ (s : List ℕ) (n : Counts) (tag base : ℕ) (h : tag ≤ 9) {p : Place
         rw (eq-eqb tag 9 e, lt-ltb _ _ m, t)
         (kept (record { position = q.position; numbers = q.numbers; mentions = suc q.mentions }) _ named cells fact refl
         (rw (four, named)
-        (ap (λ (x : ℕ). Done (record { position = q.position; numbers = q.numbers; mentions = x; named = p.named })) (omega arith))))))
+        (ap (λ (x : ℕ). Ok (record { position = q.position; numbers = q.numbers; mentions = x; named = p.named })) (omega arith))))))
 
     -- tags 0 to 8
     other : (r : Stored) → (tag ≡ 9 → ⊥)
-        → (q.named ≡ p.named → r ≡ Done (place_of (cursor_of q) (cond (eqb tag 4) (max p.named v) p.named))) →
+        → (q.named ≡ p.named → r ≡ Ok (place_of (cursor_of q) (cond (eqb tag 4) (max p.named v) p.named))) →
         Stores (operand_shape tag) p (base + p.numbers) l₀ l₁ r (operand_field s n tag (cursor_of p))
     other r e a =
         rw (value-operand n s (cursor_of p) tag h)
         (takes_bind (Stores _ _ _ _ _ _) _ _ k told
         (λ named cells fact. rw (ne_eqb tag 9 e) (kept (cursor_of q) r named cells fact refl (a named))))
 
-    pub operand_larger : (tag ≡ 9 → ⊥) → tag ≡ 4 → q.named < v →
+    -- tag 4 names a block
+    pub operand-entries : {largest : ℕ} → (tag ≡ 9 → ⊥) → tag ≡ 4 → largest ≡ max q.named v →
         Stores (operand_shape tag) p (base + p.numbers) l₀ l₁
-        (Done (record { position = q.position; numbers = q.numbers; mentions = q.mentions; named = v }))
+        (Ok (record { position = q.position; numbers = q.numbers; mentions = q.mentions; named = largest }))
         (operand_field s n tag (cursor_of p))
-    operand_larger e f g = other _ e (λ named. rw (eq-eqb tag 4 f) (ap (λ (x : ℕ). Done (place_of (cursor_of q) x)) (omega arith)))
-
-    pub operand-lower : (tag ≡ 9 → ⊥) → tag ≡ 4 → v ≤ q.named →
-        Stores (operand_shape tag) p (base + p.numbers) l₀ l₁ (Done q) (operand_field s n tag (cursor_of p))
-    operand-lower e f g = other _ e (λ named. rw (eq-eqb tag 4 f) (ap (λ (x : ℕ). Done (place_of (cursor_of q) x)) (omega arith)))
+    operand-entries e f g =
+        other _ e (λ named. rw (eq-eqb tag 4 f, g, named) refl)
 
     pub operand-other : (tag ≡ 9 → ⊥) → (tag ≡ 4 → ⊥) →
-        Stores (operand_shape tag) p (base + p.numbers) l₀ l₁ (Done q) (operand_field s n tag (cursor_of p))
-    operand-other e f = other _ e (λ named. rw (ne_eqb tag 4 f) (ap (λ (x : ℕ). Done (place_of (cursor_of q) x)) named))
+        Stores (operand_shape tag) p (base + p.numbers) l₀ l₁ (Ok q) (operand_field s n tag (cursor_of p))
+    operand-other e f = other _ e (λ named. rw (ne_eqb tag 4 f) (ap (λ (x : ℕ). Ok (place_of (cursor_of q) x)) named))
 
 -- ---- Comparisons
 
 module _ (s : List ℕ) (inner : Parser Term) (base : ℕ) {p : Place} {l₀ l₁ : List ℕ} {r₁ : Taken}
     (k₁ : Takes (counted_shape 1 6 1) p (base + p.numbers) l₀ l₁ r₁ (value_number s 1 6 (cursor_of p))) where
-  pub comparison-stop : {m : ℕ} (after : List ℕ) → r₁ ≡ NotTaken m →
-      Stores (operand_shape 10) p (base + p.numbers) l₀ after (Refused m) (comparison_field s inner (cursor_of p))
+  pub comparison-stop : {d : Refusal} (after : List ℕ) → r₁ ≡ Err d →
+      Stores (operand_shape 10) p (base + p.numbers) l₀ after (Err d) (comparison_field s inner (cursor_of p))
   unfolding comparison_field
   comparison-stop after told = takes-stop (Stores _ _ _ _ _ _) _ _ k₁ told (record { held = refl })
 
-  module _ {v : ℕ} {q : Place} {l₂ : List ℕ} {r₂ : Stored} (told₁ : r₁ ≡ Number v q)
+  module _ {v : ℕ} {q : Place} {l₂ : List ℕ} {r₂ : Stored} (told₁ : r₁ ≡ Ok (v, q))
       (k₂ : Stores term_shape q (base + q.numbers) l₁ l₂ r₂ (inner (cursor_of q))) where
-    pub comparison-stop-2 : {m : ℕ} (after : List ℕ) → r₂ ≡ Refused m →
-        Stores (operand_shape 10) p (base + p.numbers) l₀ after (Refused m) (comparison_field s inner (cursor_of p))
+    pub comparison-stop-2 : {d : Refusal} (after : List ℕ) → r₂ ≡ Err d →
+        Stores (operand_shape 10) p (base + p.numbers) l₀ after (Err d) (comparison_field s inner (cursor_of p))
     unfolding comparison_field
     comparison-stop-2 after told =
         takes_bind (Stores _ _ _ _ _ _) _ _ k₁ told₁
         (λ named cells fact. stores-stop (Stores _ _ _ _ _ _) _ _ k₂ told (record { held = refl }))
 
     -- term, relation, term
-    pub comparison-kept : {left : Place} {l₃ : List ℕ} {r₃ : Stored} → r₂ ≡ Done left →
+    pub comparison-kept : {left : Place} {l₃ : List ℕ} {r₃ : Stored} → r₂ ≡ Ok left →
         Stores term_shape left (base + left.numbers) l₂ l₃ r₃ (inner (cursor_of left)) →
         Stores (operand_shape 10) p (base + p.numbers) l₀ l₃ r₃ (comparison_field s inner (cursor_of p))
     unfolding comparison_field term_numbers term_named small_term
@@ -266,13 +251,13 @@ module _ (s : List ℕ) (inner : Parser Term) (base : ℕ) {p : Place} {l₀ l�
 module _ (s : List ℕ) (inner : Parser Term) (base : ℕ) {p : Place} {l₀ l₁ : List ℕ} {r₁ : Taken}
     (k₁ : Takes (counted_shape 1 8 1) p (base + p.numbers) l₀ l₁ r₁ (value_number s 1 8 (cursor_of p))) where
   -- the count of terms fails
-  pub sum-stop : {m : ℕ} (after : List ℕ) → r₁ ≡ NotTaken m
-      → Stores sum_shape p (base + p.numbers) l₀ after (Refused m) (sum_field s inner (cursor_of p))
+  pub sum-stop : {d : Refusal} (after : List ℕ) → r₁ ≡ Err d
+      → Stores sum_shape p (base + p.numbers) l₀ after (Err d) (sum_field s inner (cursor_of p))
   unfolding sum_field
   sum-stop after told = takes-stop (Stores _ _ _ _ _ _) _ _ k₁ told (record { held = refl })
 
   -- the count, then so many terms
-  pub sum_kept : {count : ℕ} {q : Place} {l₂ : List ℕ} {r₂ : Stored} → r₁ ≡ Number count q →
+  pub sum_kept : {count : ℕ} {q : Place} {l₂ : List ℕ} {r₂ : Stored} → r₁ ≡ Ok (count, q) →
       Stores (terms_shape count) q (base + q.numbers) l₁ l₂ r₂ (sum_terms s count inner (cursor_of q)) →
       Stores sum_shape p (base + p.numbers) l₀ l₂ r₂ (sum_field s inner (cursor_of p))
   unfolding sum_field sum_numbers
@@ -291,7 +276,7 @@ module _ (s : List ℕ) (inner : Parser Term) (base : ℕ) {p : Place} {l₀ l�
 -- the terms of a sum
 module _ (s : List ℕ) (inner : Parser Term) (base : ℕ) where
   pub terms-none : (left : ℕ) (p : Place) (l : List ℕ) → left ≡ 0
-      → Stores (terms_shape left) p (base + p.numbers) l l (Done p) (sum_terms s left inner (cursor_of p))
+      → Stores (terms_shape left) p (base + p.numbers) l l (Ok p) (sum_terms s left inner (cursor_of p))
   unfolding sum_terms signed_terms terms small_sum sum_named
   terms-none left p l e = rw e (record { held = (refl, refl, (record { grown = omega arith; within = omega arith }, tt, refl)) })
 
@@ -300,15 +285,15 @@ module _ (s : List ℕ) (inner : Parser Term) (base : ℕ) where
     more : left ≡ suc (left - 1)
     more = omega arith
 
-    pub terms-stop : {m : ℕ} (after : List ℕ) → r₁ ≡ NotTaken m →
-        Stores (terms_shape left) p (base + p.numbers) l₀ after (Refused m) (sum_terms s left inner (cursor_of p))
+    pub terms-stop : {d : Refusal} (after : List ℕ) → r₁ ≡ Err d →
+        Stores (terms_shape left) p (base + p.numbers) l₀ after (Err d) (sum_terms s left inner (cursor_of p))
     unfolding sum_terms
     terms-stop after told = rw more (takes-stop (Stores _ _ _ _ _ _) _ _ k₁ told (record { held = refl }))
 
-    module _ {sign : ℕ} {q : Place} {l₂ : List ℕ} {r₂ : Stored} (told₁ : r₁ ≡ Number sign q)
+    module _ {sign : ℕ} {q : Place} {l₂ : List ℕ} {r₂ : Stored} (told₁ : r₁ ≡ Ok (sign, q))
         (k₂ : Stores term_shape q (base + q.numbers) l₁ l₂ r₂ (inner (cursor_of q))) where
-      pub terms-stop-2 : {m : ℕ} (after : List ℕ) → r₂ ≡ Refused m →
-          Stores (terms_shape left) p (base + p.numbers) l₀ after (Refused m) (sum_terms s left inner (cursor_of p))
+      pub terms-stop-2 : {d : Refusal} (after : List ℕ) → r₂ ≡ Err d →
+          Stores (terms_shape left) p (base + p.numbers) l₀ after (Err d) (sum_terms s left inner (cursor_of p))
       unfolding sum_terms
       terms-stop-2 after told =
           rw more
@@ -326,7 +311,7 @@ module _ (s : List ℕ) (inner : Parser Term) (base : ℕ) where
       signed false f h t e = let z : sign ≡ 1 = omega (arith, eqb-false sign 0 f) in (rw z, λ m. refl, refl, refl)
 
       -- sign, term, and the other terms
-      pub terms-kept : {after : Place} {l₃ : List ℕ} {r₃ : Stored} → r₂ ≡ Done after →
+      pub terms-kept : {after : Place} {l₃ : List ℕ} {r₃ : Stored} → r₂ ≡ Ok after →
           Stores (terms_shape (left - 1)) after (base + after.numbers) l₂ l₃ r₃ (sum_terms s (left - 1) inner (cursor_of after)) →
           Stores (terms_shape left) p (base + p.numbers) l₀ l₃ r₃ (sum_terms s left inner (cursor_of p))
       unfolding sum_terms
@@ -382,12 +367,12 @@ module _ (s : List ℕ) (n : Counts) where
   module _ (base depth : ℕ) {p : Place} {l₀ l₁ : List ℕ} {r₁ : Taken}
       (k₁ : Takes (counted_shape 0 11 0) p (base + p.numbers) l₀ l₁ r₁ (value_number s 0 11 (cursor_of p))) where
     -- the tag fails
-    pub term-stop : {m : ℕ} (after : List ℕ) → r₁ ≡ NotTaken m
-        → Stores term_shape p (base + p.numbers) l₀ after (Refused m) (value_term s n depth (cursor_of p))
+    pub term-stop : {d : Refusal} (after : List ℕ) → r₁ ≡ Err d
+        → Stores term_shape p (base + p.numbers) l₀ after (Err d) (value_term s n depth (cursor_of p))
     unfolding tagged_term
     term-stop after told = rw (term_tagged depth (cursor_of p)) (takes-stop (Stores _ _ _ _ _ _) _ _ k₁ told (record { held = refl }))
 
-    module _ {tag : ℕ} {q : Place} (told : r₁ ≡ Number tag q) where
+    module _ {tag : ℕ} {q : Place} (told : r₁ ≡ Ok (tag, q)) where
       -- a tag and what follows it
       whole : {l₂ : List ℕ} {r₂ : Stored} (P : Parsed Term) → Stores (operand_shape tag) q (base + q.numbers) l₁ l₂ r₂ P →
           q.named ≡ p.named → l₁ ≡ set l₀ (base + p.numbers) (0 + (tag - 0)) → q.numbers ≡ suc p.numbers → p.numbers < 64 →
@@ -418,7 +403,7 @@ module _ (s : List ℕ) (n : Counts) where
 
       -- question 5: brackets five deep
       pub term_fifth : (after : List ℕ) → 9 < tag → depth ≡ 0
-          → Stores term_shape p (base + p.numbers) l₀ after (Refused 5) (value_term s n depth (cursor_of p))
+          → Stores term_shape p (base + p.numbers) l₀ after (Err LargeValue) (value_term s n depth (cursor_of p))
       unfolding tagged_term
       term_fifth after h e =
           rw (term_tagged depth (cursor_of p), e)
@@ -426,7 +411,7 @@ module _ (s : List ℕ) (n : Counts) where
           (λ named cells fact. rw (ne_eqb tag 9 (omega arith)) (go (eqb tag 10) refl fact.1)))
         where
           go : (b : Bool) → eqb tag 10 ≡ b → tag ≤ 11 →
-              Stores term_shape p (base + p.numbers) l₀ after (Refused 5)
+              Stores term_shape p (base + p.numbers) l₀ after (Err LargeValue)
               (cond b (λ (c : Cursor). refused 5) (cond (eqb tag 11) (λ (c : Cursor). refused 5) (simple_term (value_number s) n tag))
               (cursor_of q))
           go true f g = record { held = refl }

@@ -1,7 +1,7 @@
 -- Several things, read one after the other and stored in rows of one width.
-use Rattle.std.specs.Prelude.{◌+◌, ◌≡◌, ◌∷◌}
+use Rattle.std.specs.Prelude.{◌+◌, ◌≡◌, ◌∷◌, Ok}
 use Rattle.machine.specs.All.{ℕ, zero, suc, List, [], sets, Parsed, parsed, refused, Parser, continue}
-use Rattle.parse_values.specs.{declared.Place.Place, declared.Stored.Stored, declared.Stored.TheVariants.Done, declared.Stored.TheVariants.Refused, Keeps.place_of, Keeps.Shape}
+use Rattle.parse_values.specs.{declared.Place.Place, Keeps.Stored, Keeps.Refuses, Keeps.place_of, Keeps.Shape}
 
 module _ {A : Type 0} where
   -- `left` things, the first of them thing k
@@ -24,8 +24,8 @@ module _ {A : Type 0} where
 
   abbrev pub HeldRows : Shape A → (A → Type 0) → (w at : ℕ) → Place → (cells after : List ℕ) → Stored → Parsed (List A) → Type 0
   HeldRows sh holds w at p cells after r (parsed l c) =
-      (r ≡ Done (place_of c (all_named sh.named p.named l))) × (after ≡ stored_rows sh.numbers w at l cells) × Each holds l
-  HeldRows sh holds w at p cells after r (refused n) = r ≡ Refused n
+      (r ≡ Ok (place_of c (all_named sh.named p.named l))) × (after ≡ stored_rows sh.numbers w at l cells) × Each holds l
+  HeldRows sh holds w at p cells after r (refused n) = Refuses r n
 
   pub record Filled (sh : Shape A) (holds : A → Type 0) (w at : ℕ) (p : Place) (cells after : List ℕ) (r : Stored)
       (P : Parsed (List A)) : Type 0 where

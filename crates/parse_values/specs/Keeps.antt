@@ -1,15 +1,27 @@
 -- What reading and storing gives: by cases on what a parser of the machine gives, the answer, the cells of the tables and
 -- what else is known of the thing that was read.
-use Rattle.std.specs.Prelude.{◌+◌, ◌-◌, ◌≤◌, ◌<◌, ◌≡◌, ◌∷◌}
+use Rattle.std.specs.Prelude.{◌+◌, ◌-◌, ◌≤◌, ◌<◌, ◌≡◌, ◌∷◌, Result, Ok, IsErrAnd}
 use Rattle.machine.specs.All.{ℕ, suc, List, [], sets, max_value_numbers, Cursor, Parsed, parsed, refused}
+use Rattle.constants.specs.{declared.refusals.Refusal.Refusal, Numbers.refusal_number}
 use Rattle.layout.specs.All.{word_end}
-use Rattle.parse_values.specs.{declared.Place.Place, declared.Taken.Taken, declared.Taken.TheVariants.Number, declared.Taken.TheVariants.Refused as NotTaken, declared.Stored.Stored, declared.Stored.TheVariants.Done, declared.Stored.TheVariants.Refused}
+use Rattle.parse_values.specs.declared.Place.{Place}
 
 abbrev pub cursor_of : Place → Cursor
 cursor_of p = record { position = p.position; numbers = p.numbers; mentions = p.mentions }
 
 abbrev pub place_of : Cursor → ℕ → Place
 place_of c named = record { position = c.position; numbers = c.numbers; mentions = c.mentions; named = named }
+
+-- what reading gives: a number and the place behind it, or the place alone
+abbrev pub Taken : Type 0
+Taken = Result (ℕ × Place) Refusal
+
+abbrev pub Stored : Type 0
+Stored = Result Place Refusal
+
+-- the refusal of a number
+abbrev pub Refuses : {A : Type 0} → Result A Refusal → ℕ → Type 0
+Refuses r n = IsErrAnd r (λ x. refusal_number x ≡ n)
 
 -- How a thing is kept: the numbers that stand for it, the largest block that it names besides those named before, and
 -- what is known of it.
@@ -25,11 +37,11 @@ Held sh done stopped p to cells after (refused n) = stopped n
 
 -- a number, with its value in the answer
 pub record Takes (sh : Shape ℕ) (p : Place) (to : ℕ) (cells after : List ℕ) (r : Taken) (P : Parsed ℕ) : Type 0 where
-  pub held : Held sh (λ v q. r ≡ Number v q) (λ n. r ≡ NotTaken n) p to cells after P
+  pub held : Held sh (λ v q. r ≡ Ok (v, q)) (λ n. Refuses r n) p to cells after P
 
 -- a thing that stands in the tables only
 pub record Stores {A : Type 0} (sh : Shape A) (p : Place) (to : ℕ) (cells after : List ℕ) (r : Stored) (P : Parsed A) : Type 0 where
-  pub held : Held sh (λ a q. r ≡ Done q) (λ n. r ≡ Refused n) p to cells after P
+  pub held : Held sh (λ a q. r ≡ Ok q) (λ n. Refuses r n) p to cells after P
 
 -- ---- Numbers
 

@@ -1,3 +1,4 @@
 pub mod Formed
 pub mod Steps
 pub mod Question
+pub mod KindNumbers

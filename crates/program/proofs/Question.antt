@@ -1,10 +1,14 @@
 -- Question 7, pure: over rows one by one, and what the rows say is what the machine asks.
-use Rattle.machine.specs.All.{ℕ, zero, suc, ◌+◌, ◌*◌, ◌-◌, ◌≤◌, ◌<◌, arith, ◌≡◌, refl, sym, ap, ap₂, ◌∙◌, Bool, true, false, cond, not, ◌&&◌, ◌||◌, List, [], ◌∷◌, eqb, ltb, leb, T, ltb→lt, length, get_or, eqb-true, eqb-false, le-leb, lt-leb, ltb-true, ltb-false, lt-ltb, bit, up_to, Block, facts, terminate, BlockModel, block_at, back_at, inside_group, is_generate, well_placed, all_of, joined}
+use Rattle.machine.specs.All.{ℕ, zero, suc, ◌+◌, ◌*◌, ◌-◌, ◌≤◌, ◌<◌, add-one, arith, ◌≡◌, refl, sym, ap, ap₂, ◌∙◌, Bool, true, false, cond, not, ◌&&◌, ◌||◌, List, [], ◌∷◌, eqb, ltb, leb, T, ltb→lt, length, get_or, eqb-true, eqb-false, le-leb, lt-leb, ltb-true, ltb-false, lt-ltb, bit, up_to, Block, facts, terminate, BlockModel, block_at, back_at, inside_group, is_generate, well_placed, all_of, joined}
 use Rattle.layout.specs.All.{block_numbers}
 use Rattle.parse_values.specs.Filled.{Each}
 use Rattle.parse_values.proofs.Filled.{each_at}
 use Rattle.program.specs.{leaves_kind, target_from, back_from, target_inside, names_generate, reaches_from, inside_from, names_inside, misnames, placed_from, targets_from, waits_after, joined_from}
 use Rattle.program.specs.Formed.{Formed}
+
+or_true : (x : Bool) → (x || true) ≡ true
+or_true true = refl
+or_true false = refl
 
 -- ---- Row by row, where b of `blocks` rows are behind
 
@@ -77,24 +81,27 @@ module _ (l : List ℕ) (blocks b : ℕ) where
       rw f (sym (ap (λ (i : ℕ). joined_from l i (8 * b) waits) e ∙ rw (le-leb (back_from l (8 * b)) waits good)))
 
 -- one place of a group after the other
-module _ (l : List ℕ) (blocks t c : ℕ) where
-  -- the group of c WAITIFs behind t reaches over it
-  pub inside_found : 0 < c → reaches_from l blocks t c ≡ true → true ≡ inside_from l blocks t c
+module _ (l : List ℕ) (blocks t : ℕ) where
+  -- no WAITIF reaches over it
+  pub inside-none : inside_from l blocks t 0 ≡ false
   unfolding inside_from
-  inside_found h found =
-      let e : c ≡ suc (c - 1) = omega arith in
-      sym (ap (inside_from l blocks t) e ∙ rw (sym (ap (reaches_from l blocks t) e) ∙ found))
+  inside-none = refl
 
-  -- one WAITIF fewer
-  pub inside-next : 0 < c → reaches_from l blocks t c ≡ false → inside_from l blocks t (c - 1) ≡ inside_from l blocks t c
+  -- one WAITIF more
+  pub inside-next : (c : ℕ) → reaches_from l blocks t (c + 1) ≡ false → inside_from l blocks t c ≡ false → inside_from l blocks t (c + 1) ≡ false
   unfolding inside_from
-  inside-next h none =
-      let e : c ≡ suc (c - 1) = omega arith in
-      sym (ap (inside_from l blocks t) e ∙ rw (sym (ap (reaches_from l blocks t) e) ∙ none))
+  inside-next c none before = let e = rw add-one at none in rw (add-one, e) before
 
-  pub inside-end : c ≤ 0 → false ≡ inside_from l blocks t c
+  -- the group of so many WAITIFs behind t reaches over it
+  pub inside_found : (c most : ℕ) → c < most → reaches_from l blocks t (c + 1) ≡ true → true ≡ inside_from l blocks t most
   unfolding inside_from
-  inside-end h = let e : c ≡ 0 = omega arith in rw e
+  inside_found c zero h found = absurd (omega arith)
+  inside_found c (suc most) h found = go (λ g. inside_found c most g found) (eqb c most) refl
+    where
+      go : (c < most → true ≡ inside_from l blocks t most) → (same : Bool) → eqb c most ≡ same
+          → true ≡ (reaches_from l blocks t (suc most) || inside_from l blocks t most)
+      go lower true e = let f : c + 1 ≡ suc most = omega (arith, eqb-true c most e) in rw (← f, found)
+      go lower false e = rw (← lower (omega (arith, eqb-false c most e))) (sym (or_true (reaches_from l blocks t (suc most))))
 
 -- ---- What the rows say is what the machine asks
 

@@ -1,8 +1,9 @@
 -- What each function over operands keeps, pure: from what its calls kept, by the machine's `operands` at each kind.
-use Rattle.machine.specs.All.{clash, ℕ, suc, ◌+◌, ◌*◌, ◌-◌, ◌≤◌, ◌<◌, le_antisymm, arith, ◌≡◌, refl, sym, ap, ◌∙◌, List, [], ◌∷◌, ◌++◌, append_assoc, length, get_or, take, drop, length-append, length-drop, sets, length-sets, get_or-set_other, get_or-take, get_or-drop, ext_get_or, le-leb, lt-leb, Cursor, Parsed, parsed, refused, Parser, continue, field, Term, code_index, Block, generate, advance, terminate, seize, release, enter, leave, wait_server, wait_terms, branch, goto, assign, priority, split, arrive, depart, assemble, preempt, give_back, Counts, block_term, relation_of, code_of, code_server, storage_units, operands, block_field, nth}
-use Rattle.constants.specs.declared.model.Model.{Model}
+use Rattle.machine.specs.All.{ℕ, suc, ◌+◌, ◌*◌, ◌-◌, ◌≤◌, ◌<◌, le_antisymm, arith, ◌≡◌, refl, sym, ap, ◌∙◌, List, [], ◌∷◌, ◌++◌, append_assoc, length, get_or, take, drop, length-append, length-drop, sets, length-sets, get_or-set_other, get_or-take, get_or-drop, ext_get_or, le-leb, lt-leb, Cursor, Parsed, parsed, refused, Parser, continue, field, Term, code_index, Block, generate, advance, terminate, seize, release, enter, leave, wait_server, wait_terms, branch, goto, assign, priority, split, arrive, depart, assemble, preempt, give_back, Counts, block_term, relation_of, code_of, code_server, storage_units, operands, block_field, nth}
+use Rattle.std.specs.Prelude.{Ok, Err}
+use Rattle.constants.specs.{declared.model.Model.Model, declared.refusals.Refusal.Refusal}
 use Rattle.layout.specs.All.{block_forms, term_numbers, block_numbers}
-use Rattle.parse_values.specs.{declared.Place.Place, declared.Range.Range, declared.Taken.Taken, declared.Taken.TheVariants.Number, declared.Taken.TheVariants.Refused as NotTaken, declared.Stored.Stored, declared.Stored.TheVariants.Done, declared.Stored.TheVariants.Refused, Shapes.counts_of, Shapes.range, Shapes.block_term_shape, Keeps.place_of}
+use Rattle.parse_values.specs.{declared.Place.Place, declared.Range.Range, Keeps.Taken, Keeps.Stored, Shapes.counts_of, Shapes.range, Shapes.block_term_shape, Keeps.place_of}
 use Rattle.parse_values.specs.Keeps.{cursor_of, Shape, Takes, Stores, number_shape}
 use Rattle.parse_values.proofs.Binds.{takes-refused, takes-known, takes-stop, takes_bind, stores-stop, stores_bind, stores-last, stores_as}
 use Rattle.parse_values.proofs.{Steps.sets_then, Cells.sets-above, Tags.by-tag, Tags.relation-number}
@@ -13,25 +14,25 @@ use Rattle.program.proofs.Formed.{formed-plain, formed-generate, formed-terminat
 -- ---- One number, and two
 
 module _ {sh : Shape ℕ} {p : Place} {to : ℕ} {l l' : List ℕ} {r : Taken} {P : Parsed ℕ} (k : Takes sh p to l l' r P) where
-  pub single-refused : {n : ℕ} → r ≡ NotTaken n → Stores sh p to l l' (Refused n) P
+  pub single-refused : {d : Refusal} → r ≡ Err d → Stores sh p to l l' (Err d) P
   single-refused told = rw (takes-refused P k told) (record { held = refl })
 
   -- one number as the whole operand
-  pub single-read : {v : ℕ} {q : Place} → r ≡ Number v q → Stores sh p to l l' (Done q) P
+  pub single-read : {v : ℕ} {q : Place} → r ≡ Ok (v, q) → Stores sh p to l l' (Ok q) P
   single-read {v} {q} told =
       takes-known (Stores _ _ _ _ _ _) P k told
-      (λ named cells fact. record { held = (ap (λ (m : ℕ). Done (place_of (cursor_of q) m)) named, cells, fact) })
+      (λ named cells fact. record { held = (ap (λ (m : ℕ). Ok (place_of (cursor_of q) m)) named, cells, fact) })
 
 module _ (s : List ℕ) (a b : Range) {p : Place} {to : ℕ} {l₀ l₁ : List ℕ} {r₁ : Taken}
     (k₁ : Takes (number_shape a.lo a.hi a.plus) p to l₀ l₁ r₁ (field s 3 a.lo a.hi (cursor_of p))) where
   -- the first of two numbers fails
-  pub pair-stop : {n : ℕ} (after : List ℕ) → r₁ ≡ NotTaken n
-      → Stores (pair_shape a b) p to l₀ after (Refused n) (pair_field s a b (cursor_of p))
+  pub pair-stop : {d : Refusal} (after : List ℕ) → r₁ ≡ Err d
+      → Stores (pair_shape a b) p to l₀ after (Err d) (pair_field s a b (cursor_of p))
   unfolding pair_field
   pair-stop after told = takes-stop (Stores _ _ _ _ _ _) _ _ k₁ told (record { held = refl })
 
   -- two numbers, stored side by side
-  pub pair-kept : {v : ℕ} {q : Place} {l₂ : List ℕ} {r₂ : Stored} → r₁ ≡ Number v q →
+  pub pair-kept : {v : ℕ} {q : Place} {l₂ : List ℕ} {r₂ : Stored} → r₁ ≡ Ok (v, q) →
       Stores (number_shape b.lo b.hi b.plus) q (to + 1) l₁ l₂ r₂ (field s 3 b.lo b.hi (cursor_of q)) →
       Stores (pair_shape a b) p to l₀ l₂ r₂ (pair_field s a b (cursor_of p))
   unfolding pair_field
@@ -49,13 +50,13 @@ module _ (s : List ℕ) (a b : Range) {p : Place} {to : ℕ} {l₀ l₁ : List �
 
 module _ (s : List ℕ) (m : Model) {p : Place} {to : ℕ} {l₀ l₁ : List ℕ} {r₁ : Taken}
     (k₁ : Takes (number_shape 1 m.storages m.facilities) p to l₀ l₁ r₁ (field s 3 1 m.storages (cursor_of p))) where
-  pub units-stop : {n : ℕ} (after : List ℕ) → r₁ ≡ NotTaken n →
-      Stores (units_shape (counts_of m)) p to l₀ after (Refused n) (units_field s (counts_of m) (capacities_of m l₀) (cursor_of p))
+  pub units-stop : {d : Refusal} (after : List ℕ) → r₁ ≡ Err d →
+      Stores (units_shape (counts_of m)) p to l₀ after (Err d) (units_field s (counts_of m) (capacities_of m l₀) (cursor_of p))
   unfolding units_field
   units-stop after told = takes-stop (Stores _ _ _ _ _ _) _ _ k₁ told (record { held = refl })
 
   -- a storage, then units up to its capacity, read from the tables
-  pub units-kept : {k : ℕ} {q : Place} {l₂ : List ℕ} {r₂ : Stored} (capacity : ℕ) → r₁ ≡ Number k q → to < 2048 →
+  pub units-kept : {k : ℕ} {q : Place} {l₂ : List ℕ} {r₂ : Stored} (capacity : ℕ) → r₁ ≡ Ok (k, q) → to < 2048 →
       capacity ≡ get_or l₁ (2560 + m.facilities + (k - 1)) 0 →
       Stores (number_shape 1 capacity 1) q (to + 1) l₁ l₂ r₂ (field s 3 1 capacity (cursor_of q)) →
       Stores (units_shape (counts_of m)) p to l₀ l₂ r₂ (units_field s (counts_of m) (capacities_of m l₀) (cursor_of p))
@@ -134,12 +135,12 @@ code-index v l h =
 module _ (s : List ℕ) (n : Counts) {p : Place} {to : ℕ} {l₀ l₁ : List ℕ} {r₁ : Taken}
     (k₁ : Takes (number_shape 1 6 0) p to l₀ l₁ r₁ (field s 3 1 6 (cursor_of p))) where
   -- the code of a WAITIF fails
-  pub watched-stop : {m : ℕ} (after : List ℕ) → r₁ ≡ NotTaken m
-      → Stores watched_shape p to l₀ after (Refused m) (watched_field s n (cursor_of p))
+  pub watched-stop : {d : Refusal} (after : List ℕ) → r₁ ≡ Err d
+      → Stores watched_shape p to l₀ after (Err d) (watched_field s n (cursor_of p))
   unfolding watched_field
   watched-stop after told = takes-stop (Stores _ _ _ _ _ _) _ _ k₁ told (record { held = refl })
 
-  module _ {code : ℕ} {q : Place} {l₂ : List ℕ} {r₂ : Stored} (told : r₁ ≡ Number code q) where
+  module _ {code : ℕ} {q : Place} {l₂ : List ℕ} {r₂ : Stored} (told : r₁ ≡ Ok (code, q)) where
     -- codes up to 2 watch a facility
     pub watched-facility : code ≤ 2
         → Stores (number_shape 1 n.facilities 0) q (to + 1) l₁ l₂ r₂ (field s 3 1 n.facilities (cursor_of q)) →
@@ -185,15 +186,15 @@ module _ (s : List ℕ) (n : Counts) (capacities : List ℕ) {p : Place} {to : �
   counting code v d = continue (field s 3 1 7 d) (λ b e. parsed (wait_server (code_of code) v b) e)
 
   -- a WAITIF with a back count fails where its operands do
-  pub joined-stop : {m : ℕ} (after : List ℕ) → r₁ ≡ Refused m
-      → Stores (operands_shape n.blocks 17) p to l₀ after (Refused m) (operands s n capacities 17 (cursor_of p))
+  pub joined-stop : {d : Refusal} (after : List ℕ) → r₁ ≡ Err d
+      → Stores (operands_shape n.blocks 17) p to l₀ after (Err d) (operands s n capacities 17 (cursor_of p))
   unfolding operands
   joined-stop after told =
       rw (← watched-then s n counting (cursor_of p))
       (stores-stop (Stores _ _ _ _ _ _) _ _ k₁ told (record { held = refl }))
 
   -- 17 WAITIF code, server, back count
-  pub joined-kept : {q : Place} {l₂ : List ℕ} {r₂ : Stored} → r₁ ≡ Done q →
+  pub joined-kept : {q : Place} {l₂ : List ℕ} {r₂ : Stored} → r₁ ≡ Ok q →
       Stores (number_shape 1 7 1) q (to + 2) l₁ l₂ r₂ (field s 3 1 7 (cursor_of q)) →
       Stores (operands_shape n.blocks 17) p to l₀ l₂ r₂ (operands s n capacities 17 (cursor_of p))
   unfolding operands
@@ -216,23 +217,23 @@ module _ (s : List ℕ) (n : Counts) (capacities : List ℕ) {p : Place} {to : �
 module _ (s : List ℕ) (n : Counts) {p : Place} {to : ℕ} {l₀ l₁ : List ℕ} {r₁ : Stored}
     (k₁ : Stores block_term_shape p to l₀ l₁ r₁ (block_term s n (cursor_of p))) where
   -- the first term of a comparison fails
-  pub compared-stop : {m : ℕ} (after : List ℕ) → r₁ ≡ Refused m
-      → Stores compared_shape p to l₀ after (Refused m) (compared_field s n (cursor_of p))
+  pub compared-stop : {d : Refusal} (after : List ℕ) → r₁ ≡ Err d
+      → Stores compared_shape p to l₀ after (Err d) (compared_field s n (cursor_of p))
   unfolding compared_field
   compared-stop after told = stores-stop (Stores _ _ _ _ _ _) _ _ k₁ told (record { held = refl })
 
-  module _ {left : Place} {l₂ : List ℕ} {r₂ : Stored} (told₁ : r₁ ≡ Done left)
+  module _ {left : Place} {l₂ : List ℕ} {r₂ : Stored} (told₁ : r₁ ≡ Ok left)
       (k₂ : Stores (number_shape 1 6 1) left (to + 2) l₁ l₂ r₂ (field s 3 1 6 (cursor_of left))) where
     -- its relation fails
-    pub compared-stop-2 : {m : ℕ} (after : List ℕ) → r₂ ≡ Refused m
-        → Stores compared_shape p to l₀ after (Refused m) (compared_field s n (cursor_of p))
+    pub compared-stop-2 : {d : Refusal} (after : List ℕ) → r₂ ≡ Err d
+        → Stores compared_shape p to l₀ after (Err d) (compared_field s n (cursor_of p))
     unfolding compared_field
     compared-stop-2 after told =
         stores_bind (Stores _ _ _ _ _ _) _ _ k₁ told₁
         (λ a named cells fact. stores-stop (Stores _ _ _ _ _ _) _ _ k₂ told (record { held = refl }))
 
     -- term, relation, term
-    pub compared-kept : {q : Place} {l₃ : List ℕ} {r₃ : Stored} → r₂ ≡ Done q
+    pub compared-kept : {q : Place} {l₃ : List ℕ} {r₃ : Stored} → r₂ ≡ Ok q
         → Stores block_term_shape q (to + 3) l₂ l₃ r₃ (block_term s n (cursor_of q)) →
         Stores compared_shape p to l₀ l₃ r₃ (compared_field s n (cursor_of p))
     unfolding compared_field
@@ -278,8 +279,8 @@ module _ (s : List ℕ) (n : Counts) (capacities : List ℕ) {p : Place} {to : �
       )))
 
   -- an IF fails where its comparison does
-  pub branch-stop : {m : ℕ} (after : List ℕ) → r₁ ≡ Refused m
-      → Stores (operands_shape n.blocks 10) p to l₀ after (Refused m) (operands s n capacities 10 (cursor_of p))
+  pub branch-stop : {d : Refusal} (after : List ℕ) → r₁ ≡ Err d
+      → Stores (operands_shape n.blocks 10) p to l₀ after (Err d) (operands s n capacities 10 (cursor_of p))
   unfolding operands
   branch-stop after told =
       rw (← compared-then s n (λ a r b d. continue (field s 3 1 n.blocks d) (λ t e. parsed (branch a (relation_of r) b t) e))
@@ -287,7 +288,7 @@ module _ (s : List ℕ) (n : Counts) (capacities : List ℕ) {p : Place} {to : �
       (stores-stop (Stores _ _ _ _ _ _) _ _ k₁ told (record { held = refl }))
 
   -- 10 IF left, relation, right, target
-  pub branch_kept : {q : Place} {l₂ : List ℕ} {r₂ : Stored} → r₁ ≡ Done q →
+  pub branch_kept : {q : Place} {l₂ : List ℕ} {r₂ : Stored} → r₁ ≡ Ok q →
       Stores (number_shape 1 n.blocks 1) q (to + 5) l₁ l₂ r₂ (field s 3 1 n.blocks (cursor_of q)) →
       Stores (operands_shape n.blocks 10) p to l₀ l₂ r₂ (operands s n capacities 10 (cursor_of p))
   unfolding operands block_forms
@@ -324,13 +325,13 @@ module _ (s : List ℕ) (n : Counts) (capacities : List ℕ) {p : Place} {to : �
 module _ (s : List ℕ) (n : Counts) (capacities : List ℕ) {p : Place} {to : ℕ} {l₀ l₁ : List ℕ} {r₁ : Stored}
     (k₁ : Stores (number_shape 1 4 0) p to l₀ l₁ r₁ (field s 3 1 4 (cursor_of p))) where
   -- a LET fails where its parameter does
-  pub assign-stop : {m : ℕ} (after : List ℕ) → r₁ ≡ Refused m
-      → Stores (operands_shape n.blocks 12) p to l₀ after (Refused m) (operands s n capacities 12 (cursor_of p))
+  pub assign-stop : {d : Refusal} (after : List ℕ) → r₁ ≡ Err d
+      → Stores (operands_shape n.blocks 12) p to l₀ after (Err d) (operands s n capacities 12 (cursor_of p))
   unfolding operands
   assign-stop after told = stores-stop (Stores _ _ _ _ _ _) _ _ k₁ told (record { held = refl })
 
   -- parameter, then term
-  pub assign-kept : {q : Place} {l₂ : List ℕ} {r₂ : Stored} → r₁ ≡ Done q
+  pub assign-kept : {q : Place} {l₂ : List ℕ} {r₂ : Stored} → r₁ ≡ Ok q
       → Stores block_term_shape q (to + 1) l₁ l₂ r₂ (block_term s n (cursor_of q)) →
       Stores (operands_shape n.blocks 12) p to l₀ l₂ r₂ (operands s n capacities 12 (cursor_of p))
   unfolding operands block_forms
@@ -496,13 +497,13 @@ module _ (s : List ℕ) (n : Counts) (capacities : List ℕ) {p : Place} {to : �
 module _ (s : List ℕ) (n : Counts) (capacities : List ℕ) {p : Place} {to : ℕ} {l₀ l₁ : List ℕ} {r₁ : Taken}
     (k₁ : Takes (number_shape 1 20 1) p to l₀ l₁ r₁ (field s 3 1 20 (cursor_of p))) where
   -- the kind fails
-  pub block-stop : {m : ℕ} (after : List ℕ) → r₁ ≡ NotTaken m
-      → Stores (block_shape n.blocks) p to l₀ after (Refused m) (block_field s 20 n capacities (cursor_of p))
+  pub block-stop : {d : Refusal} (after : List ℕ) → r₁ ≡ Err d
+      → Stores (block_shape n.blocks) p to l₀ after (Err d) (block_field s 20 n capacities (cursor_of p))
   unfolding block_field
   block-stop after told = takes-stop (Stores _ _ _ _ _ _) _ _ k₁ told (record { held = refl })
 
   -- the kind, then the operands of that kind
-  pub block-kept : {kind : ℕ} {q : Place} {l₂ : List ℕ} {r₂ : Stored} → r₁ ≡ Number kind q →
+  pub block-kept : {kind : ℕ} {q : Place} {l₂ : List ℕ} {r₂ : Stored} → r₁ ≡ Ok (kind, q) →
       (l₁ ≡ sets l₀ to (kind ∷ []) → Stores (operands_shape n.blocks kind) q (to + 1) l₁ l₂ r₂
       (operands s n capacities kind (cursor_of q))) →
       Stores (block_shape n.blocks) p to l₀ l₂ r₂ (block_field s 20 n capacities (cursor_of p))
@@ -552,8 +553,8 @@ the_last k h l n =
 
 -- a block leaves the capacities
 pub block-capacities : (m : Model) {n b : ℕ} {q next : Place} {l l₁ : List ℕ} {r : Stored} (P : Parsed Block) → b < 256 →
-    Stores (block_shape n) q (0 + 8 * b) l l₁ r P → r ≡ Done next → capacities_of m l₁ ≡ capacities_of m l
+    Stores (block_shape n) q (0 + 8 * b) l l₁ r P → r ≡ Ok next → capacities_of m l₁ ≡ capacities_of m l
 block-capacities m {n} {b} {q} {next} {l} {l₁} {r} (parsed a c) h k told =
     let w = k.held.2.width in
     ap (λ (t : List ℕ). capacities_of m t) k.held.1 ∙ capacities-kept m (block_numbers a) l (0 + 8 * b) (omega arith)
-block-capacities m (refused i) h k told = let e = sym told ∙ k.held in clash (cc)
+block-capacities m (refused i) h k told = absurd (rw told at k.held)

@@ -8,15 +8,15 @@ mod counts;
 mod living;
 
 ghost use Rattle.std.specs.Prelude.{◌≡◌, ◌∷◌};
-ghost use Rattle.machine.specs.All.{[], min};
-ghost use Rattle.rows_laws.specs.All.{Room};
+ghost use Rattle.machine.specs.All.{[]};
 ghost use Rattle.report_laws.specs.Numbers.{row_numbers};
 ghost use Rattle.report_laws.specs.Writing.{written, put_all};
 
 use codec::write_number;
 use constants::Model;
-use counts::{put_queues, put_servers};
-use living::put_living;
+use counts::Counts;
+use living::Living;
+use rows::Work;
 use state::Scalars;
 
 fn put_scalars(x: Scalars, report: &mut [u8], at: usize) -> usize
@@ -27,34 +27,33 @@ fn put_scalars(x: Scalars, report: &mut [u8], at: usize) -> usize
     write_number(report, made, x.ended as u64)
 }
 
-fn at_most(n: usize, most: usize) -> usize
-    ensures { result ≡ min n most }
-{
-    if n <= most {
-        return n;
-    }
-    most
-}
-
 // Writes the report from the start of its buffer, and answers how many bytes it takes.
 pub fn write_report(
     model: Model,
     tables: &[u32],
     tally: &[u64],
-    work: &[u32],
+    work: &Work,
     x: Scalars,
     report: &mut [u8],
 ) -> usize
-    requires { Room work.now }
     ensures { written result report.new ≡ put_all (row_numbers model tables.now tally.now work.now x)
         (written 0 report.old) }
 {
-    let blocks = at_most(model.blocks, Model::MAX_BLOCKS);
-    let servers = at_most(model.facilities, Model::MAX_FACILITIES)
-        + at_most(model.storages, Model::MAX_STORAGES);
-    let queues = at_most(model.queues, Model::MAX_QUEUES);
+    let counts = Counts {
+        tables,
+        tally,
+        clock: x.clock,
+        blocks: model.blocks.min(Model::MAX_BLOCKS),
+    };
+    let living = Living {
+        work,
+        moving: x.moving,
+    };
+    let servers = model.facilities.min(Model::MAX_FACILITIES)
+        + model.storages.min(Model::MAX_STORAGES);
+    let queues = model.queues.min(Model::MAX_QUEUES);
     let head = put_scalars(x, report, 0);
-    let served = put_servers(tables, tally, x.clock, blocks, servers, report, head);
-    let queued = put_queues(tables, tally, x.clock, blocks, queues, report, served);
-    put_living(work, x.moving, report, queued)
+    let served = counts.put_servers(servers, report, head);
+    let queued = counts.put_queues(queues, report, served);
+    living.put_living(report, queued)
 }

@@ -11,8 +11,11 @@ pub mod lines;
 pub mod lists;
 pub mod make;
 pub mod order;
+mod row;
 pub mod wake;
 pub mod whole;
+
+pub use row::{Chain, Row, Server, Work};
 
 // The layout of the work buffer (specs/Layout of rows_laws): FIELDS of ROWS numbers each, FIELD_WIDTH apart. A number that is not below
 // ROWS is no row.
@@ -77,7 +80,7 @@ pub const WORD_END: u64 = 4_294_967_296;
 
 // Lists: the QL of a server is its number less one, its WELs follow from WELS on; then WSL and REL, the gatherers of each block, the
 // interrupted one of each facility, FEL and the free rows.
-pub const LISTS: u32 = 772;
+pub const CHAINS: u32 = 772;
 
 pub const WELS: u32 = 64;
 
@@ -96,14 +99,14 @@ pub const FEL: u32 = 770;
 pub const FREE: u32 = 771;
 
 // Where walks onto a list begin (lists): HINTS_EACH for each of HINTED lists or more that share them.
-pub const HINTS: u32 = HEADS + LISTS;
+pub const HINTS: u32 = HEADS + CHAINS;
 
 pub const HINTED: u32 = 63;
 
 pub const HINTS_EACH: u32 = 4;
 
 // Where the rows of holders stand, one for each server (future).
-pub const HOLDERS: u32 = TAILS + LISTS;
+pub const HOLDERS: u32 = TAILS + CHAINS;
 
 pub const WSL_HEAD: u32 = HEADS + WSL;
 

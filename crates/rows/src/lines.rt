@@ -2,112 +2,94 @@
 // goes to the very front" and "others are placed from the back, behind the first member met of equal or higher priority".
 
 ghost use Rattle.std.specs.Prelude.{◌≡◌, ◌<◌, ◌≤◌};
-ghost use Rattle.rows_laws.specs.All.{row_count, list_count, Room, at_least, found_at, last_cell, last_meets, back_before, back_spot, second_spot, line_up};
+ghost use Rattle.rows_laws.specs.All.{Room, row_count, list_count, at_least, found_at, last_cell, last_meets, back_before, back_spot, second_spot, line_up};
 
-use crate::cells::{get, load, priority, read};
+use crate::cells::{get, priority, read, row_at};
 use crate::lists::{insert_at, put};
-use crate::{HEADS, LINKS, ROWS, STANDING, TAILS};
+use crate::{Chain, LINKS, ROWS, Row, STANDING};
 
 // Has row j at least the priority of row k?
-fn at_least(w: &[u32], k: u32, j: u32) -> bool
-    requires room { Room w.now }
-    requires k_lt_row_count { k < row_count }
-    requires j_lt_row_count { j < row_count }
+fn at_least(w: &[u32], k: Row, j: Row) -> bool
+    requires { Room w.now }
     ensures { result ≡ at_least w.now k j }
 {
     priority(w, k) <= priority(w, j)
 }
 
 // The cell behind row j, if it has; else as found.
-fn found_at(w: &[u32], k: u32, j: u32, found: u32) -> u32
-    requires room { Room w.now }
-    requires k_lt_row_count { k < row_count }
-    requires j_lt_row_count { j < row_count }
+fn found_at(w: &[u32], k: Row, j: Row, found: u32) -> u32
+    requires { Room w.now }
     ensures { result ≡ found_at w.now k j found }
 {
     if at_least(w, k, j) {
-        return LINKS + j;
+        return j.link();
     }
     found
 }
 
 // The cell behind the last row from a cell on that has; the cell itself where none has. Links lead forward only.
-fn last_cell(w: &[u32], k: u32, from: u32) -> u32
-    requires room { Room w.now }
-    requires k_lt_row_count { k < row_count }
+fn last_cell(w: &[u32], k: Row, from: u32) -> u32
+    requires { Room w.now }
     ensures { result ≡ last_cell row_count w.now k from from }
 {
     let mut c = from;
     let mut found = from;
-    let mut i: u32 = 0;
-    while i < ROWS {
-        let j = load(w, c);
-        if j >= ROWS {
+    for _ in 0..ROWS {
+        let Some(j) = row_at(w, c) else {
             return found;
-        }
+        };
         found = found_at(w, k, j, found);
-        c = LINKS + j;
-        i += 1;
+        c = j.link();
     }
     found
 }
 
 // Has the row whose link cell t is?
-fn last_meets(w: &[u32], k: u32, t: u32) -> bool
-    requires room { Room w.now }
-    requires k_lt_row_count { k < row_count }
+fn last_meets(w: &[u32], k: Row, t: u32) -> bool
+    requires { Room w.now }
     ensures { result ≡ last_meets w.now k t }
 {
     if t < LINKS {
         return false;
     }
-    let j = t - LINKS;
-    if j >= ROWS {
-        return false;
+    match Row::of(t - LINKS) {
+        Some(j) => at_least(w, k, j),
+        None => false,
     }
-    at_least(w, k, j)
 }
 
-fn back_before(w: &[u32], p: u32, k: u32, t: u32) -> u32
-    requires room { Room w.now }
-    requires p_lt_list_count { p < list_count }
-    requires k_lt_row_count { k < row_count }
+fn back_before(w: &[u32], p: Chain, k: Row, t: u32) -> u32
+    requires { Room w.now }
     ensures { result ≡ back_before w.now p k t }
 {
     if last_meets(w, k, t) {
         return t;
     }
-    last_cell(w, k, HEADS + p)
+    last_cell(w, k, p.head())
 }
 
 // The cell behind the first row met from the back of list p that has.
-fn back_spot(w: &[u32], p: u32, k: u32) -> u32
-    requires room { Room w.now }
-    requires p_lt_list_count { p < list_count }
-    requires k_lt_row_count { k < row_count }
+fn back_spot(w: &[u32], p: Chain, k: Row) -> u32
+    requires { Room w.now }
     ensures { result ≡ back_spot w.now p k }
 {
-    let t = get(w, TAILS + p);
+    let t = get(w, p.tail());
     back_before(w, p, k, t)
 }
 
-fn second_spot(w: &[u32], p: u32, k: u32) -> u32
-    requires room { Room w.now }
-    requires p_lt_list_count { p < list_count }
-    requires k_lt_row_count { k < row_count }
+fn second_spot(w: &[u32], p: Chain, k: Row) -> u32
+    requires { Room w.now }
     ensures { result ≡ second_spot w.now p k }
 {
     if read(w, STANDING, k) % 2 == 1 {
-        return HEADS + p;
+        return p.head();
     }
     back_spot(w, p, k)
 }
 
 // Row k, which is on no list, comes onto list p.
-pub fn line_up(w: &mut [u32], p: u32, k: u32, edition: u32)
-    requires room { Room w.old }
-    requires p_lt_list_count { p < list_count }
-    requires k_lt_row_count { k < row_count }
+pub fn line_up(w: &mut [u32], p: Chain, k: Row, edition: u32)
+    requires { Room w.old }
     ensures { w.new ≡ line_up edition w.old p k }
 {
     if edition == 1 {

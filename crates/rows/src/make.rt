@@ -1,36 +1,34 @@
 // Rows that come to life and end, and the buffer at the start of a run.
 
 ghost use Rattle.std.specs.Prelude.{◌≡◌, ◌<◌, ◌≤◌};
-ghost use Rattle.rows_laws.specs.All.{row_count, list_count, priority_end, Room, free, first, take_first, clear_parameters, copy_parameters, describe, newborn_at, copy_at, free_row, empty_list, empty_lists, loose_rows, free_rows, initial};
+ghost use Rattle.rows_laws.specs.All.{Room, row_count, list_count, priority_end, IsRow, free, first, take_first, clear_parameters, copy_parameters, describe, newborn_at, copy_at, free_row, empty_list, empty_lists, loose_rows, free_rows, initial};
 
 use crate::cells::{read, set, set_time, write};
 use crate::lists::{insert_at, take_first};
 use crate::{
-    FAMILY, FEL_SIZE, FREE, FREE_HEAD, HEADS, LISTS, NEXT, NOWHERE, NUMBER, PARAMETER_1,
-    PARAMETER_2, PARAMETER_3, PARAMETER_4, PLACES, ROWS, SERIAL, STANDING, TAILS,
+    CHAINS, Chain, FAMILY, FEL_SIZE, NEXT, NOWHERE, NUMBER, PARAMETER_1, PARAMETER_2, PARAMETER_3,
+    PARAMETER_4, PLACES, ROWS, Row, SERIAL, STANDING,
 };
 
-// A free row, which is then on no list; 1024 or more if all live.
-pub fn make_row(w: &mut [u32]) -> u32
+// A free row, which is then on no list; none if all live.
+pub fn make_row(w: &mut [u32]) -> Option<Row>
     requires { Room w.old }
-    ensures row { result ≡ first w.old free }
+    ensures row { IsRow (first w.old free) result }
     ensures rows { w.new ≡ take_first w.old free }
 {
-    take_first(w, FREE)
+    take_first(w, Chain::FREE)
 }
 
 // Row k, which is on no list, is free.
-pub fn free_row(w: &mut [u32], k: u32)
-    requires room { Room w.old }
-    requires k_lt_row_count { k < row_count }
+pub fn free_row(w: &mut [u32], k: Row)
+    requires { Room w.old }
     ensures { w.new ≡ free_row w.old k }
 {
-    insert_at(w, FREE, FREE_HEAD, k);
+    insert_at(w, Chain::FREE, Chain::FREE.head(), k);
 }
 
-fn clear_parameters(w: &mut [u32], k: u32)
-    requires room { Room w.old }
-    requires k_lt_row_count { k < row_count }
+fn clear_parameters(w: &mut [u32], k: Row)
+    requires { Room w.old }
     ensures { w.new ≡ clear_parameters w.old k }
 {
     write(w, PARAMETER_1, k, 0);
@@ -39,10 +37,8 @@ fn clear_parameters(w: &mut [u32], k: u32)
     write(w, PARAMETER_4, k, 0);
 }
 
-fn copy_parameters(w: &mut [u32], j: u32, k: u32)
-    requires room { Room w.old }
-    requires j_lt_row_count { j < row_count }
-    requires k_lt_row_count { k < row_count }
+fn copy_parameters(w: &mut [u32], j: Row, k: Row)
+    requires { Room w.old }
     ensures { w.new ≡ copy_parameters w.old j k }
 {
     let a = read(w, PARAMETER_1, j);
@@ -55,9 +51,8 @@ fn copy_parameters(w: &mut [u32], j: u32, k: u32)
     write(w, PARAMETER_4, k, d);
 }
 
-fn describe(w: &mut [u32], k: u32, number: u32, priority: u32, block: u32, family: u32)
+fn describe(w: &mut [u32], k: Row, number: u32, priority: u32, block: u32, family: u32)
     requires room { Room w.old }
-    requires k_lt_row_count { k < row_count }
     requires priority_lt_priority_end { priority < priority_end }
     ensures { w.new ≡ describe w.old k number priority block family }
 {
@@ -70,9 +65,8 @@ fn describe(w: &mut [u32], k: u32, number: u32, priority: u32, block: u32, famil
 }
 
 // Row k as a new transaction at a block, which founds a family, with no serial yet.
-pub fn newborn(w: &mut [u32], k: u32, number: u32, priority: u32, block: u32)
+pub fn newborn(w: &mut [u32], k: Row, number: u32, priority: u32, block: u32)
     requires room { Room w.old }
-    requires k_lt_row_count { k < row_count }
     requires priority_lt_priority_end { priority < priority_end }
     ensures { w.new ≡ newborn_at w.old k number priority block }
 {
@@ -81,10 +75,8 @@ pub fn newborn(w: &mut [u32], k: u32, number: u32, priority: u32, block: u32)
 }
 
 // Row k as a copy of row j at a block: same priority, parameters and family, a number of its own, not returning, no serial yet.
-pub fn copy(w: &mut [u32], j: u32, k: u32, number: u32, block: u32)
-    requires room { Room w.old }
-    requires j_lt_row_count { j < row_count }
-    requires k_lt_row_count { k < row_count }
+pub fn copy(w: &mut [u32], j: Row, k: Row, number: u32, block: u32)
+    requires { Room w.old }
     ensures { w.new ≡ copy_at w.old j k number block }
 {
     let standing = read(w, STANDING, j);
@@ -93,23 +85,22 @@ pub fn copy(w: &mut [u32], j: u32, k: u32, number: u32, block: u32)
     copy_parameters(w, j, k);
 }
 
-pub fn empty_list(w: &mut [u32], p: u32)
-    requires room { Room w.old }
-    requires p_lt_list_count { p < list_count }
+pub fn empty_list(w: &mut [u32], p: Chain)
+    requires { Room w.old }
     ensures { w.new ≡ empty_list w.old p }
 {
-    set(w, HEADS + p, ROWS);
-    set(w, TAILS + p, HEADS + p);
+    set(w, p.head(), ROWS);
+    set(w, p.tail(), p.head());
 }
 
 fn empty_lists(w: &mut [u32])
     requires { Room w.old }
     ensures { w.new ≡ empty_lists list_count w.old }
 {
-    let mut p: u32 = 0;
-    while p < LISTS {
-        empty_list(w, p);
-        p += 1;
+    for p in 0..CHAINS {
+        if let Some(p) = Chain::of(p) {
+            empty_list(w, p);
+        }
     }
 }
 
@@ -117,10 +108,8 @@ fn loose_rows(w: &mut [u32])
     requires { Room w.old }
     ensures { w.new ≡ loose_rows row_count w.old }
 {
-    let mut k: u32 = 0;
-    while k < ROWS {
+    for k in 0..ROWS {
         set(w, PLACES + k, NOWHERE);
-        k += 1;
     }
 }
 
@@ -128,10 +117,10 @@ fn free_rows(w: &mut [u32])
     requires { Room w.old }
     ensures { w.new ≡ free_rows row_count w.old }
 {
-    let mut k: u32 = 0;
-    while k < ROWS {
-        free_row(w, k);
-        k += 1;
+    for k in 0..ROWS {
+        if let Some(k) = Row::of(k) {
+            free_row(w, k);
+        }
     }
 }
 

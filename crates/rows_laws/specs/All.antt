@@ -1,5 +1,5 @@
 -- The names of these definitions that other crates use, passed on so that a file there has one line for them.
-pub use Rattle.rows_laws.specs.Layout.{rel, fel, row_count, serial_end, wsl, head, free, place, number_field, next_field, family_field, gatherers, standing_field, serial_field, interrupted, nowhere, list_count, wels, links, link, tail, tails, data_fields, slots, field_at, slot, holder_cell, heads, hint, hints, word_end, Room, parameter_field, field_count, priority_end}
+pub use Rattle.rows_laws.specs.Layout.{rel, fel, row_count, serial_end, wsl, head, free, place, number_field, next_field, family_field, gatherers, standing_field, serial_field, interrupted, nowhere, IsRow, list_count, wels, links, link, tail, tails, data_fields, slots, field_at, slot, holder_cell, heads, hint, hints, word_end, Room, parameter_field, field_count, priority_end}
 pub use Rattle.rows_laws.specs.Cells.{read, write, set_returning, load, priority_of}
 unfoldable pub use Rattle.rows_laws.specs.Cells.{time_of, set_time, store}
 unfoldable pub use Rattle.rows_laws.specs.Order.{outranks, sooner, sooner_at}

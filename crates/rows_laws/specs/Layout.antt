@@ -19,7 +19,7 @@
 -- | server - 1: 0..63 | | WEL | 64 + (server - 1) * 6 + (code - 1): 64..447 | | WSL | 448 | | REL | 449 | | gatherers | 450 + (block - 1):
 -- 450..705 | | interrupted | 706 + (facility - 1): 706..769, at most one | | FEL | 770 | | free | 771: the rows that are not living | |
 -- others | there are none: behind the heads stand 252 hints (Lists), behind the tails 64 rows of holders (Future) |
-use Rattle.std.specs.Prelude.{◌+◌, ◌*◌, ◌-◌, ◌%◌, ◌≤◌}
+use Rattle.std.specs.Prelude.{Option, MatchOption, ◌≡◌, ◌<◌, ◌+◌, ◌*◌, ◌-◌, ◌%◌, ◌≤◌}
 use Rattle.machine.specs.All.{ℕ, List, length, work_numbers, Code, wel_index}
 
 -- ---- Sizes
@@ -52,6 +52,10 @@ serial_end = 4000000000
 -- what the lowest bit of the high half of a move time is worth
 abbrev pub word_end : ℕ
 word_end = 4294967296
+
+-- the row that a number of a cell is, if it is one
+abbrev pub IsRow : ℕ → Option ℕ → Type 0
+IsRow n found = MatchOption found (row_count ≤ n) (λ k. (n ≡ k) × (k < row_count))
 
 -- a buffer that has room for the layout
 abbrev pub Room : List ℕ → Type 0

@@ -1,10 +1,10 @@
 -- The numbers of a report, one after the other.
 use Rattle.machine.specs.All.{clash, ℕ, suc, ◌+◌, ◌-◌, ◌≤◌, ◌<◌, arith, List, ◌∷◌, ◌≡◌, refl, sym, ap, ◌∙◌, set, drop, sets, max_report_number_bytes, max_report_number, read_number, Validation, accept, reject}
 use Rattle.constants.specs.declared.model.Model.{Model}
-use Rattle.codec.specs.{declared.Read.Read, Answers.number_of}
-use Rattle.codec.specs.declared.Read.TheVariants.{Number as Whole, Refused as Unread}
-use Rattle.decode.specs.{declared.Decoded.Decoded, Decodes.Decodes}
-use Rattle.decode.specs.declared.Decoded.TheVariants.{Model as Accepted, Refused}
+use Rattle.std.specs.Prelude.{Option, Some, None, Ok, Err}
+use Rattle.std.specs.Result.{result_unwrap_or}
+use Rattle.codec.specs.Answers.{number_of}
+use Rattle.decode.specs.{Models.Decoded, Decodes.Decodes}
 use Rattle.runmodel.specs.declared.printing.Field.{Field}
 use Rattle.runmodel.specs.{field_of, field_at, numbers_at, behind_numbers, behind_things, header_for}
 
@@ -13,12 +13,12 @@ use Rattle.runmodel.specs.{field_of, field_at, numbers_at, behind_numbers, behin
 abbrev field : ℕ → ℕ → Field
 field value next = record { value = value; next = next }
 
-module _ (s : List ℕ) (at : ℕ) (r : Read) (e : number_of at r ≡ read_number max_report_number_bytes max_report_number (drop at s)) where
-  pub field-none : r ≡ Unread → field 0 at ≡ field_at s at
+module _ (s : List ℕ) (at : ℕ) (r : Option (ℕ × ℕ)) (e : number_of at r ≡ read_number max_report_number_bytes max_report_number (drop at s)) where
+  pub field-none : r ≡ None → field 0 at ≡ field_at s at
   unfolding field_at field_of number_of
   field-none q = rw (← e, q)
 
-  pub field-read : (v next : ℕ) → r ≡ Whole v next → at < next → field v next ≡ field_at s at
+  pub field-read : (v next : ℕ) → r ≡ Some (v, next) → at < next → field v next ≡ field_at s at
   unfolding field_at field_of number_of
   field-read v next q h = rw (← e, q) (ap (field v) (omega arith))
 
@@ -91,26 +91,22 @@ module _ (s : List ℕ) where
 
 -- ---- The header
 
-module _ (tape tables lists : List ℕ) (r : Decoded) where
-  -- the header that is printed with is the accepted model's,
-  pub header-model : (a : Validation) → Decodes tape r tables lists a → (h : Model) → r ≡ Accepted h → h ≡ header_for a
-  unfolding header_for
-  header-model (accept m times) (is, _) h e = cc
-  header-model (reject n) is h e = clash (cc)
-
-  -- or all zeros
-  pub header-none : (a : Validation) → Decodes tape r tables lists a → (n : ℕ) → r ≡ Refused n → (h : Model)
-      → (h.facilities ≡ 0) × (h.storages ≡ 0) × (h.queues ≡ 0) × (h.values ≡ 0) × (h.lists ≡ 0) × (h.counter ≡ 0) × (h.blocks ≡ 0)
-      → h ≡ header_for a
-  unfolding header_for
-  header-none (accept m times) (is, _) n e h z = clash (cc)
-  header-none (reject k) is n e h z =
-      λ i. record {
-        facilities = z.0 i;
-        storages = z.1 i;
-        queues = z.2 i;
-        values = z.3 i;
-        lists = z.4 i;
-        counter = z.5 i;
-        blocks = z.6 i;
-      }
+-- the header that is printed with is the accepted model's, or all zeros
+pub header-of : (tape tables lists : List ℕ) (r : Decoded) (none : Model) (a : Validation) → Decodes tape r tables lists a
+    → (none.facilities ≡ 0) × (none.storages ≡ 0) × (none.queues ≡ 0) × (none.values ≡ 0) × (none.lists ≡ 0) × (none.counter ≡ 0)
+    × (none.blocks ≡ 0)
+    → result_unwrap_or r none ≡ header_for a
+unfolding header_for
+header-of tape tables lists (Ok h) none (accept m times) d z = let e = d.0 in cc
+header-of tape tables lists (Err x) none (accept m times) d z = let e = d.0 in clash (cc)
+header-of tape tables lists (Ok h) none (reject k) d z = absurd d
+header-of tape tables lists (Err x) none (reject k) d z =
+    λ i. record {
+      facilities = z.0 i;
+      storages = z.1 i;
+      queues = z.2 i;
+      values = z.3 i;
+      lists = z.4 i;
+      counter = z.5 i;
+      blocks = z.6 i;
+    }

@@ -1,6 +1,5 @@
 pub mod Counting
 pub mod Examples
 pub mod Parts
-pub mod Reading
 pub mod Stored
 pub mod Worth

@@ -7,7 +7,7 @@ mod lines;
 mod printing;
 
 use constants::Model;
-use files::{File, fail, read_file};
+use files::{fail, read_file};
 use printing::{print_accepted, print_refused};
 use std::io;
 
@@ -39,11 +39,11 @@ fn run(rt: &impl Print, model: &[u8], tape: &[u8]) -> io::Result<()> {
 
 fn main(rt: HostRuntime) {
     let mut model = [0u8; BUFFER];
-    let File::Read(model_len) = read_file(&rt, "model.bin", &mut model) else {
+    let Some(model_len) = read_file(&rt, "model.bin", &mut model) else {
         return;
     };
     let mut tape = [0u8; BUFFER];
-    let File::Read(tape_len) = read_file(&rt, "tape.bin", &mut tape) else {
+    let Some(tape_len) = read_file(&rt, "tape.bin", &mut tape) else {
         return;
     };
     if let Err(error) = run(&rt, &model[..model_len], &tape[..tape_len]) {

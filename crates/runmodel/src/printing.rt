@@ -5,13 +5,10 @@ ghost use Rattle.runmodel.specs.Fields.{field_at, numbers_at, behind_numbers, be
 ghost use Rattle.runmodel.specs.Line.{letter_room, number_room, line_room};
 
 use crate::lines::{LINE, line};
-use codec::Read;
 use constants::Model;
-use decode::Decoded;
 use engine::Outcome;
 use layout::{LIST_CELLS, TABLES};
 use std::io;
-use trace::Reading;
 
 // How many numbers the report has at its head, per server and per queue; a line has one more.
 const HEAD: usize = 3;
@@ -38,14 +35,12 @@ pub fn print_refused(rt: &impl Print, number: u64) -> io::Result<()> {
 // Every record of a trace.
 fn print_records(rt: &impl Print, trace: &[u8]) -> io::Result<()> {
     let mut at = 0;
-    let mut left = trace.len();
-    while 0 < left {
-        let Reading::Taken(r, next) = trace::read_record(trace, at) else {
+    for _ in 0..trace.len() {
+        let Ok(Some((r, next))) = trace::read_record(trace, at) else {
             return Ok(());
         };
         print_line(rt, b"", &[r.clock, r.transaction, r.block, r.outcome])?;
         at = next;
-        left -= 1;
     }
     Ok(())
 }
@@ -62,8 +57,8 @@ fn number_at(report: &[u8], at: usize) -> Field
     ensures { result ≡ field_at report.now at }
 {
     match codec::read_report_number(report, at) {
-        Read::Number(value, next) => Field { value, next },
-        Read::Refused => Field { value: 0, next: at },
+        Some((value, next)) => Field { value, next },
+        None => Field { value: 0, next: at },
     }
 }
 
@@ -96,11 +91,9 @@ fn read_fields(report: &[u8], at: usize, count: usize, numbers: &mut [u64; NUMBE
     ensures numbers { numbers.new ≡ sets numbers.old 1 (numbers_at report.now count at) }
 {
     let mut next = at;
-    let mut i = 0;
-    while i < count {
+    for i in 0..count {
         let f = number_at(report, next);
-        i += 1;
-        numbers[i] = f.value;
+        numbers[i + 1] = f.value;
         next = f.next;
     }
     next
@@ -120,10 +113,8 @@ fn print_all(
 {
     let mut numbers = [0u64; NUMBERS];
     let mut next = at;
-    let mut k = 0;
-    while k < things {
-        k += 1;
-        numbers[0] = k as u64;
+    for k in 0..things {
+        numbers[0] = k as u64 + 1;
         next = read_fields(report, next, count, &mut numbers);
         print_line(rt, letters, &numbers[..count + 1])?;
     }
@@ -158,17 +149,15 @@ fn header(model: &[u8], tape: &[u8]) -> Model
 {
     let mut tables = [0u32; TABLES];
     let mut lists = [0u64; LIST_CELLS];
-    match decode::decode(
+    decode::decode(
         model,
         tape,
         Model::WORK_NUMBERS,
         Model::REPORT_ROOM,
         &mut tables,
         &mut lists,
-    ) {
-        Decoded::Model(m) => m,
-        Decoded::Refused(_) => Model::empty(),
-    }
+    )
+    .unwrap_or(Model::empty())
 }
 
 pub fn print_accepted(

@@ -1,26 +1,23 @@
 // 5 RELEASE f and 7 LEAVE s, b, which ask first whether the units are in use; a RELEASE then asks for the holder.
-ghost use Rattle.std.specs.Prelude.{◌≡◌, ◌+◌, ◌<◌, ◌≤◌};
-ghost use Rattle.layout.specs.All.{program_size, server_count};
-ghost use Rattle.rows_laws.specs.All.{Room, row_count};
+ghost use Rattle.std.specs.Prelude.{◌≡◌, ◌<◌};
+ghost use Rattle.layout.specs.All.{program_size};
 ghost use Rattle.moves.specs.Motion.{moved, with_outcome};
 ghost use Rattle.state.specs.All.{rows_of};
+ghost use Rattle.state.specs.Notes.{number_of_no};
 ghost use Rattle.servers_laws.specs.Freeing.{enter_freed, free_one, free_some, ask_release, release_rows, leave_rows};
 
+use crate::taking::OFTEN;
 use crate::units::{capacity, change_use, holder, in_use, preempted, server_at};
 use crate::waking::{check_wels, leave_with, wake_first_ql, wake_some};
-use constants::ends::{NOT_HOLDER, NOT_IN_USE};
+use constants::End;
 use layout::{EDITION, FIRST, QL_LENGTH, SECOND, count, number, set_count};
 use moves::{row_goes_on, stop, with_outcome};
-use rows::NUMBER;
 use rows::cells::read;
-use saturating::less64;
-use state::{ENTERED, Scalars};
+use rows::{NUMBER, Row, Server, Work};
+use state::{Moving, Note, Scalars};
 
 // Row k enters, and so many units are in use.
-fn enter_freed(work: &mut [u32], k: u32, v: u32, units: u64, capacity: u64)
-    requires room { Room work.old }
-    requires k_lt_row_count { k < row_count }
-    requires v_lt_server_count { v < server_count }
+fn enter_freed(work: &mut Work, k: Row, v: Server, units: u64, capacity: u64)
     ensures { (x : Scalars) → x.moving ≡ k
         → moved (with_outcome x 0) work.new ≡ enter_freed work.old x v units capacity }
 {
@@ -28,41 +25,16 @@ fn enter_freed(work: &mut [u32], k: u32, v: u32, units: u64, capacity: u64)
     row_goes_on(work, k);
 }
 
-pub fn free_one(
+// One unit is given back, and so many are in use then.
+pub fn free_one<const INSTANCE: usize>(
     tables: &[u32],
-    work: &mut [u32],
+    work: &mut Work,
     tally: &mut [u64],
-    k: u32,
+    k: Row,
     clock: u64,
-    v: u32,
+    v: Server,
     left: u64,
 )
-    requires room { Room work.old }
-    requires k_lt_row_count { k < row_count }
-    requires v_lt_server_count { v < server_count }
-    ensures { (x : Scalars) → x.moving ≡ k → x.clock ≡ clock
-        → rows_of (with_outcome x 0) work.new tally.new
-        ≡ free_one tables.now work.old tally.old x v left }
-{
-    let all = capacity(tables, v);
-    change_use(tally, v, clock, left, 0, 0);
-    wake_first_ql(work, tally, v);
-    enter_freed(work, k, v, left, all);
-}
-
-// The same for RELEASE, which is built into the turn as the only caller of it.
-fn release_one(
-    tables: &[u32],
-    work: &mut [u32],
-    tally: &mut [u64],
-    k: u32,
-    clock: u64,
-    v: u32,
-    left: u64,
-)
-    requires room { Room work.old }
-    requires k_lt_row_count { k < row_count }
-    requires v_lt_server_count { v < server_count }
     ensures { (x : Scalars) → x.moving ≡ k → x.clock ≡ clock
         → rows_of (with_outcome x 0) work.new tally.new
         ≡ free_one tables.now work.old tally.old x v left }
@@ -76,17 +48,14 @@ fn release_one(
 // So many units are in use then, b of them just given back.
 fn free_some(
     tables: &[u32],
-    work: &mut [u32],
+    work: &mut Work,
     tally: &mut [u64],
-    k: u32,
+    k: Row,
     clock: u64,
-    v: u32,
+    v: Server,
     units: u64,
     b: u64,
 )
-    requires room { Room work.old }
-    requires k_lt_row_count { k < row_count }
-    requires v_lt_server_count { v < server_count }
     ensures { (x : Scalars) → x.moving ≡ k → x.clock ≡ clock
         → rows_of (with_outcome x 0) work.new tally.new
         ≡ free_some tables.now work.old tally.old x v units b }
@@ -94,57 +63,48 @@ fn free_some(
     let all = capacity(tables, v);
     change_use(tally, v, clock, units, 0, 0);
     let edition = number(tables, EDITION);
-    let left = leave_with(edition, less64(all, units), b);
-    let at = QL_LENGTH + (v as usize);
+    let left = leave_with(edition, all.saturating_sub(units), b);
+    let at = QL_LENGTH + v.index();
     let stay = wake_some(tables, work, v, edition, left, count(tally, at));
     set_count(tally, at, stay);
     enter_freed(work, k, v, units, all);
 }
 
-// 0 where the transaction of that number may release a facility: "Is f in use? 24", then "of a preempted facility" 27, "by another than
+// May the transaction of that number release a facility? "Is f in use? 24", then "of a preempted facility" 27, "by another than
 // the holder" 27.
-fn ask_release(units: u64, taken: u64, who: u64, number: u64) -> u32
-    ensures { result ≡ ask_release units taken who number }
+fn ask_release(units: u64, taken: u64, who: u64, number: u64) -> Result<(), End>
+    ensures { number_of_no result ≡ ask_release units taken who number }
 {
     if units < 1 {
-        return NOT_IN_USE;
+        return Err(End::NotInUse);
     }
     if taken != 0 {
-        return NOT_HOLDER;
+        return Err(End::NotHolder);
     }
     if who != number {
-        return NOT_HOLDER;
+        return Err(End::NotHolder);
     }
-    0
+    Ok(())
 }
 
-pub fn release(
-    tables: &[u32],
-    work: &mut [u32],
-    tally: &mut [u64],
-    x: Scalars,
-    at: usize,
-) -> Scalars
-    requires room { Room work.old }
-    requires moving_lt_row_count { x.moving < row_count }
+pub fn release(tables: &[u32], work: &mut Work, tally: &mut [u64], x: Moving, at: usize) -> Scalars
     requires at_lt_program_size { at < program_size }
     ensures { rows_of result work.new tally.new
         ≡ release_rows tables.now work.old tally.old x at }
 {
     let v = server_at(tables, at + FIRST);
     let units = in_use(tally, v);
-    let number = read(work, NUMBER, x.moving) as u64;
-    let end = ask_release(units, preempted(tally, v), holder(tally, v), number);
-    if end != 0 {
-        return stop(x, end);
+    let s = x.scalars();
+    let k = x.row();
+    let number = read(work, NUMBER, k) as u64;
+    if let Err(end) = ask_release(units, preempted(tally, v), holder(tally, v), number) {
+        return stop(s, end);
     }
-    release_one(tables, work, tally, x.moving, x.clock, v, less64(units, 1));
-    with_outcome(x, ENTERED)
+    free_one::<OFTEN>(tables, work, tally, k, s.clock, v, units.saturating_sub(1));
+    with_outcome(s, Note::Entered)
 }
 
-pub fn leave(tables: &[u32], work: &mut [u32], tally: &mut [u64], x: Scalars, at: usize) -> Scalars
-    requires room { Room work.old }
-    requires moving_lt_row_count { x.moving < row_count }
+pub fn leave(tables: &[u32], work: &mut Work, tally: &mut [u64], x: Moving, at: usize) -> Scalars
     requires at_lt_program_size { at < program_size }
     ensures { rows_of result work.new tally.new
         ≡ leave_rows tables.now work.old tally.old x at }
@@ -152,9 +112,10 @@ pub fn leave(tables: &[u32], work: &mut [u32], tally: &mut [u64], x: Scalars, at
     let v = server_at(tables, at + FIRST);
     let b = number(tables, at + SECOND) as u64;
     let units = in_use(tally, v);
+    let s = x.scalars();
     if units < b {
-        return stop(x, NOT_IN_USE);
+        return stop(s, End::NotInUse);
     }
-    free_some(tables, work, tally, x.moving, x.clock, v, units - b, b);
-    with_outcome(x, ENTERED)
+    free_some(tables, work, tally, x.row(), s.clock, v, units - b, b);
+    with_outcome(s, Note::Entered)
 }

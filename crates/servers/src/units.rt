@@ -1,48 +1,43 @@
 // Units, holders, capacities and status codes of servers.
-ghost use Rattle.std.specs.Prelude.{◌≡◌, ◌+◌, ◌<◌, ◌≤◌};
+ghost use Rattle.std.specs.Prelude.{◌≡◌, ◌%◌, ◌<◌, ◌≤◌};
 ghost use Rattle.machine.specs.All.{length};
-ghost use Rattle.layout.specs.All.{server_count, word_end, tally_size};
+ghost use Rattle.layout.specs.All.{code_count, word_end, tally_size};
+ghost use Rattle.servers.specs.Codes.{code_number};
 ghost use Rattle.servers_laws.specs.Units.{server_at, in_use, holder, preempted, residue_cell, held_less, held_more, store_use, set_use, change_use, capacity, status_of};
 
 use layout::{CAPACITIES, HELD, HOLDER, IN_USE, PREEMPTED, TALLY, count, number};
-use saturating::{less64, plus64};
+use rows::Server;
 use state::update_server;
-
-const SERVERS: u32 = layout::SERVERS as u32;
 
 const RESIDUES: u64 = layout::RESIDUES as u64;
 
-pub const CODES: u32 = layout::CODES as u32;
+const CODES: u32 = layout::CODES as u32;
 
 // The server that a block names at an index of the tables.
-pub fn server_at(tables: &[u32], at: usize) -> u32
-    ensures server { result ≡ server_at tables.now at }
-    ensures small { result < server_count }
+pub fn server_at(tables: &[u32], at: usize) -> Server
+    ensures { result ≡ server_at tables.now at }
 {
-    number(tables, at) % SERVERS
+    Server::of(number(tables, at))
 }
 
-pub fn in_use(tally: &[u64], v: u32) -> u64
-    requires { v < server_count }
+pub fn in_use(tally: &[u64], v: Server) -> u64
     ensures { result ≡ in_use tally.now v }
 {
-    count(tally, IN_USE + (v as usize))
+    count(tally, IN_USE + v.index())
 }
 
 // The number of who holds the server, 0 for nobody.
-pub fn holder(tally: &[u64], v: u32) -> u64
-    requires { v < server_count }
+pub fn holder(tally: &[u64], v: Server) -> u64
     ensures { result ≡ holder tally.now v }
 {
-    count(tally, HOLDER + (v as usize))
+    count(tally, HOLDER + v.index())
 }
 
 // 1 where it is held by PREEMPT, else 0.
-pub fn preempted(tally: &[u64], v: u32) -> u64
-    requires { v < server_count }
+pub fn preempted(tally: &[u64], v: Server) -> u64
     ensures { result ≡ preempted tally.now v }
 {
-    count(tally, PREEMPTED + (v as usize))
+    count(tally, PREEMPTED + v.index())
 }
 
 // Where facilities are counted that such a number holds.
@@ -58,11 +53,10 @@ fn held_less(tally: &mut [u64], n: u64)
     requires { tally_size ≤ length tally.old }
     ensures { tally.new ≡ held_less tally.old n }
 {
-    if n == 0 {
-        return;
+    if n != 0 {
+        let at = residue_cell(n);
+        tally[at] = tally[at].saturating_sub(1);
     }
-    let at = residue_cell(n);
-    tally[at] = less64(tally[at], 1);
 }
 
 // One more.
@@ -70,72 +64,91 @@ fn held_more(tally: &mut [u64], n: u64)
     requires { tally_size ≤ length tally.old }
     ensures { tally.new ≡ held_more tally.old n }
 {
-    if n == 0 {
-        return;
+    if n != 0 {
+        let at = residue_cell(n);
+        tally[at] = tally[at].saturating_add(1);
     }
-    let at = residue_cell(n);
-    tally[at] = plus64(tally[at], 1);
 }
 
-fn store_use(tally: &mut [u64], v: u32, units: u64, who: u64, preempts: u64)
-    requires v_lt_server_count { v < server_count }
+fn store_use(tally: &mut [u64], v: Server, units: u64, who: u64, preempts: u64)
     requires tally_size_in_bounds { tally_size ≤ length tally.old }
     ensures { tally.new ≡ store_use tally.old v units who preempts }
 {
-    tally[IN_USE + (v as usize)] = units;
-    tally[HOLDER + (v as usize)] = who;
-    tally[PREEMPTED + (v as usize)] = preempts;
+    tally[IN_USE + v.index()] = units;
+    tally[HOLDER + v.index()] = who;
+    tally[PREEMPTED + v.index()] = preempts;
 }
 
 // So many units are in use, who holds the server, and whether by PREEMPT. One test of the length serves all cells.
-fn set_use(tally: &mut [u64], v: u32, units: u64, who: u64, preempts: u64)
-    requires { v < server_count }
+fn set_use(tally: &mut [u64], v: Server, units: u64, who: u64, preempts: u64)
     ensures { tally.new ≡ set_use tally.old v units who preempts }
 {
     if tally.len() < TALLY {
         return;
     }
-    let old = tally[HOLDER + (v as usize)];
+    let old = tally[HOLDER + v.index()];
     held_less(tally, old);
     held_more(tally, who);
     store_use(tally, v, units, who, preempts);
 }
 
 // The same from now on: the server's statistics are brought up to date first.
-pub fn change_use(tally: &mut [u64], v: u32, clock: u64, units: u64, who: u64, preempts: u64)
-    requires { v < server_count }
+pub fn change_use(tally: &mut [u64], v: Server, clock: u64, units: u64, who: u64, preempts: u64)
     ensures { tally.new ≡ change_use tally.old v clock units who preempts }
 {
-    update_server(tally, v as usize, clock);
+    update_server(tally, v.index(), clock);
     set_use(tally, v, units, who, preempts);
 }
 
-pub fn capacity(tables: &[u32], v: u32) -> u64
-    requires { v < server_count }
+pub fn capacity(tables: &[u32], v: Server) -> u64
     ensures capacity { result ≡ capacity tables.now v }
     ensures small { result < word_end }
 {
-    number(tables, CAPACITIES + (v as usize)) as u64
+    number(tables, CAPACITIES + v.index()) as u64
 }
 
-// Is a server in the state that a code names? Codes count from 0: U, NU, E, NE, F, NF.
-pub fn status(code: u32, units: u64, capacity: u64) -> bool
-    ensures { result ≡ status_of code units capacity }
-{
-    if code == 0 {
-        return units > 0;
+// The state of a server that a wait names, by U, NU, E, NE, F or NF.
+#[derive(Clone, Copy, PartialEq, Eq)]
+pub enum Code {
+    InUse = 0,
+    NotInUse = 1,
+    Empty = 2,
+    NotEmpty = 3,
+    Full = 4,
+    NotFull = 5,
+}
+
+impl Code {
+    // The code of a number of the tables.
+    pub fn of(n: u32) -> Code
+        ensures { code_number result ≡ n % code_count }
+    {
+        match n % CODES {
+            0 => Code::InUse,
+            1 => Code::NotInUse,
+            2 => Code::Empty,
+            3 => Code::NotEmpty,
+            4 => Code::Full,
+            _ => Code::NotFull,
+        }
     }
-    if code == 1 {
-        return units == 0;
+
+    pub fn number(self) -> u32
+        ensures same { result ≡ code_number self }
+        ensures small { result < code_count }
+    {
+        self as u32
     }
-    if code == 2 {
-        return units == 0;
+
+    // Is a server of so many units in this state?
+    pub fn holds(self, units: u64, capacity: u64) -> bool
+        ensures { result ≡ status_of (code_number self) units capacity }
+    {
+        match self {
+            Code::InUse | Code::NotEmpty => units > 0,
+            Code::NotInUse | Code::Empty => units == 0,
+            Code::Full => units == capacity,
+            Code::NotFull => units != capacity,
+        }
     }
-    if code == 3 {
-        return units > 0;
-    }
-    if code == 4 {
-        return units == capacity;
-    }
-    units != capacity
 }

@@ -6,18 +6,17 @@
 ghost use Rattle.std.specs.Prelude.{◌≡◌, ◌<◌, ◌≤◌};
 ghost use Rattle.machine.specs.All.{min, max_blocks, max_lists};
 ghost use Rattle.layout.specs.All.{most32};
-ghost use Rattle.rows_laws.specs.All.{Room};
 ghost use Rattle.state.specs.All.{rows_of};
 ghost use Rattle.start.specs.Start.{list_set, lists_set, start_scalars, begin_list, begin_block, begin_blocks, start_rows};
 
-use constants::Model;
-use constants::kinds::GENERATE;
+use constants::{Kind, Model};
 use flow::{arrives, next_sample, one_made, times_left};
 use layout::{
     BLOCK_WIDTH, FIRST, LIST_AT, LIST_COUNTS, LIST_LEFT, SECOND, count, number, set_count,
 };
+use rows::Work;
 use rows::make::initialise;
-use state::{ENTERED, NOBODY, Scalars};
+use state::{Mover, Note, Noting, Scalars, Stopped};
 
 // Where list l begins and how many times it has.
 fn set_list(lists: &[u64], tally: &mut [u64], l: usize)
@@ -31,10 +30,8 @@ fn set_list(lists: &[u64], tally: &mut [u64], l: usize)
 fn set_lists(lists: &[u64], tally: &mut [u64])
     ensures { tally.new ≡ lists_set max_lists lists.now tally.old }
 {
-    let mut l: usize = 0;
-    while l < Model::MAX_LISTS {
+    for l in 0..Model::MAX_LISTS {
         set_list(lists, tally, l);
-        l += 1;
     }
 }
 
@@ -44,10 +41,7 @@ const MOST: usize = u32::MAX as usize;
 fn narrow(n: usize) -> u32
     ensures { result ≡ min n most32 }
 {
-    if n <= MOST {
-        return n as u32;
-    }
-    u32::MAX
+    n.min(MOST) as u32
 }
 
 fn begin_scalars(counter: usize) -> Scalars
@@ -57,14 +51,14 @@ fn begin_scalars(counter: usize) -> Scalars
     Scalars {
         clock: 0,
         counter: c,
-        moving: NOBODY,
+        moving: Mover::NOBODY,
         serial: 0,
         made: 0,
         ended: 0,
         turns: 0,
         used: 0,
-        end: 0,
-        note: ENTERED,
+        end: Stopped::none(),
+        note: Noting::of(Note::Entered),
     }
 }
 
@@ -72,12 +66,11 @@ fn begin_scalars(counter: usize) -> Scalars
 fn begin_list(
     tables: &[u32],
     tape: &[u8],
-    work: &mut [u32],
+    work: &mut Work,
     tally: &mut [u64],
     x: Scalars,
     b: usize,
 ) -> Scalars
-    requires room { Room work.old }
     requires b_lt_max_blocks { b < max_blocks }
     ensures { rows_of result work.new tally.new ≡ begin_list tables.now tape.now
         (rows_of x work.old tally.old) b }
@@ -105,17 +98,16 @@ fn begin_list(
 fn begin_block(
     tables: &[u32],
     tape: &[u8],
-    work: &mut [u32],
+    work: &mut Work,
     tally: &mut [u64],
     x: Scalars,
     b: usize,
 ) -> Scalars
-    requires room { Room work.old }
     requires b_lt_max_blocks { b < max_blocks }
     ensures { rows_of result work.new tally.new ≡ begin_block tables.now tape.now
         (rows_of x work.old tally.old) b }
 {
-    if number(tables, BLOCK_WIDTH * b) != GENERATE {
+    if number(tables, BLOCK_WIDTH * b) != Kind::Generate.number() {
         return x;
     }
     begin_list(tables, tape, work, tally, x, b)
@@ -124,33 +116,20 @@ fn begin_block(
 fn begin_blocks(
     tables: &[u32],
     tape: &[u8],
-    work: &mut [u32],
+    work: &mut Work,
     tally: &mut [u64],
     x: Scalars,
     blocks: usize,
 ) -> Scalars
-    requires room { Room work.old }
     requires blocks_le_max_blocks { blocks ≤ max_blocks }
     ensures { rows_of result work.new tally.new ≡ begin_blocks blocks tables.now tape.now
         (rows_of x work.old tally.old) 0 }
 {
     let mut y = x;
-    let mut b: usize = 0;
-    while b < blocks {
+    for b in 0..blocks {
         y = begin_block(tables, tape, work, tally, y, b);
-        b += 1;
     }
     y
-}
-
-// No more blocks than a model may have.
-fn few(blocks: usize) -> usize
-    ensures { result ≡ min blocks max_blocks }
-{
-    if blocks <= Model::MAX_BLOCKS {
-        return blocks;
-    }
-    Model::MAX_BLOCKS
 }
 
 // `lists` is what decoding leaves: where list l begins in the tape, at l, and how many times it has, at LIST_COUNTS + l.
@@ -159,16 +138,15 @@ pub fn begin(
     tables: &[u32],
     tape: &[u8],
     lists: &[u64],
-    work: &mut [u32],
+    work: &mut Work,
     tally: &mut [u64],
 ) -> Scalars
-    requires { Room work.old }
     ensures { rows_of result work.new tally.new ≡ start_rows model tables.now tape.now lists.now
         work.old tally.old }
 {
     initialise(work);
     set_lists(lists, tally);
-    let blocks = few(model.blocks);
+    let blocks = model.blocks.min(Model::MAX_BLOCKS);
     let x = begin_scalars(model.counter);
     begin_blocks(tables, tape, work, tally, x, blocks)
 }

@@ -4,3 +4,4 @@ pub mod Bare
 pub mod ScalarSetters
 pub mod Stands
 pub mod All
+pub mod Notes

@@ -8,5 +8,5 @@ mod scalars;
 mod statistics;
 
 pub use arith::{MOST_TICKS, product};
-pub use scalars::{ENTERED, NO_RECORD, NOBODY, Scalars, WAITS, by_fields};
+pub use scalars::{Mover, Moving, Note, Noting, Scalars, Stopped, by_fields};
 pub use statistics::{behind, longest_now, sum_now, update_queue, update_server};

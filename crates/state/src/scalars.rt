@@ -1,33 +1,151 @@
-ghost use Rattle.std.specs.Prelude.{◌≡◌};
+// What a turn hands on beside the buffers. Who moves, the end and the note are numbers in clauses: `NOBODY` moves, end 0 is none, and a
+// note is the outcome that a record has (state specs/Notes).
+ghost use Rattle.std.specs.Prelude.{◌≡◌, ◌<◌, ◌≤◌, MatchOption};
+ghost use Rattle.constants.specs.Numbers.{end_number};
+ghost use Rattle.rows_laws.specs.All.{row_count, IsRow};
+ghost use Rattle.state.specs.Notes.{end_or_0, note_number};
 
-use rows::ROWS;
+use constants::End;
+use rows::{ROWS, Row};
+use std::marker::Model;
 
-pub const NOBODY: u32 = ROWS;
+// A row, or nobody.
+#[derive(Clone, Copy)]
+pub struct Mover {
+    k: u32,
+}
 
-// "outcome (0 entered, 1 began to wait)"
-pub const ENTERED: u32 = 0;
+impl Model for Mover {
+    ghost use Rattle.std.specs.Prelude.{ℕ};
 
-pub const WAITS: u32 = 1;
+    ghost Value = { ℕ };
 
-pub const NO_RECORD: u32 = 2;
+    ghost view = { λ m. m.k };
 
-// What a turn hands on beside the buffers. `moving` is the row of the moving transaction, or `NOBODY`; `used` counts the bytes of
-// trace; `note` says which record the last block writes: `ENTERED`, `WAITS` or `NO_RECORD`.
+    ghost inverse = { λ n. record { k = n } };
+}
+
+impl Mover {
+    pub const NOBODY: Mover = Mover { k: ROWS };
+
+    pub fn of(k: Row) -> Mover
+        ensures { result ≡ k }
+    {
+        Mover { k: k.number() }
+    }
+
+    pub fn row(self) -> Option<Row>
+        ensures { IsRow self result }
+    {
+        Row::of(self.k)
+    }
+
+    pub fn number(self) -> u32
+        ensures { result ≡ self }
+    {
+        self.k
+    }
+}
+
+// Which record the last block writes: "outcome (0 entered, 1 began to wait)", or none.
+#[derive(Clone, Copy, PartialEq, Eq)]
+pub enum Note {
+    Entered = 0,
+    Waits = 1,
+    NoRecord = 2,
+}
+
+#[derive(Clone, Copy)]
+pub struct Noting {
+    note: Note,
+}
+
+impl Model for Noting {
+    ghost use Rattle.std.specs.Prelude.{ℕ};
+
+    ghost Value = { ℕ };
+
+    ghost use Rattle.state.specs.Notes.{noted_number, noted_of, note-back};
+
+    ghost view = { noted_number };
+
+    ghost inverse = { noted_of };
+
+    ghost inverse_ok = { λ a h i. record { note = note-back a.note i } };
+}
+
+impl Noting {
+    pub fn of(note: Note) -> Noting
+        ensures { result ≡ note_number note }
+    {
+        Noting { note }
+    }
+
+    pub fn note(self) -> Note
+        ensures { note_number result ≡ self }
+    {
+        self.note
+    }
+}
+
+// The end of the run, once there is one.
+#[derive(Clone, Copy)]
+pub struct Stopped {
+    end: Option<End>,
+}
+
+impl Model for Stopped {
+    ghost use Rattle.std.specs.Prelude.{ℕ};
+
+    ghost Value = { ℕ };
+
+    ghost use Rattle.state.specs.Notes.{stopped_number, stopped_of, end-back};
+
+    ghost view = { stopped_number };
+
+    ghost inverse = { stopped_of };
+
+    ghost inverse_ok = { λ a h i. record { end = end-back a.end i } };
+}
+
+impl Stopped {
+    // The run goes on.
+    pub fn none() -> Stopped
+        ensures { result ≡ 0 }
+    {
+        Stopped { end: None }
+    }
+
+    pub fn at(end: End) -> Stopped
+        ensures { result ≡ end_number end }
+    {
+        Stopped { end: Some(end) }
+    }
+
+    pub fn end(self) -> Option<End>
+        ensures { end_or_0 result ≡ self }
+    {
+        self.end
+    }
+}
+
+// `moving` is the row of the moving transaction; `used` counts the bytes of trace.
 #[derive(Clone, Copy)]
 pub struct Scalars {
     pub counter: u32,
-    pub moving: u32,
+    pub moving: Mover,
     pub serial: u32,
     pub made: u32,
     pub ended: u32,
     pub turns: u32,
     pub used: usize,
     pub clock: u64,
-    pub end: u32,
-    pub note: u32,
+    pub end: Stopped,
+    pub note: Noting,
 }
 
-// The same scalars, field by field: loads of single fields in place of a copy, which waits for the stores before it.
+// The same scalars, field by field. Kept, where a copy would say it: loads of single fields do not wait for the stores before
+// them, as the copy does.
 pub fn by_fields(x: Scalars) -> Scalars
     ensures { result ≡ x }
 {
@@ -42,5 +160,50 @@ pub fn by_fields(x: Scalars) -> Scalars
         clock: x.clock,
         end: x.end,
         note: x.note,
+    }
+}
+
+// Scalars with somebody who moves.
+#[derive(Clone, Copy)]
+pub struct Moving {
+    scalars: Scalars,
+}
+
+impl Model for Moving {
+    ghost use Rattle.std.specs.Prelude.{◌<◌};
+    ghost use Rattle.rows_laws.specs.All.{row_count};
+    ghost use Rattle.state.specs.declared.scalars.Scalars.{Scalars};
+
+    ghost Value = { Scalars };
+
+    ghost view = { λ m. m.scalars };
+
+    ghost invariant = { λ m. m.scalars.moving < row_count };
+
+    ghost inverse = { λ x. record { scalars = x } };
+}
+
+impl Moving {
+    // If somebody does.
+    pub fn of(x: Scalars) -> Option<Moving>
+        ensures { MatchOption result (row_count ≤ x.moving) (λ m. (m ≡ x) × (x.moving < row_count)) }
+    {
+        match x.moving.row() {
+            Some(_) => Some(Moving { scalars: x }),
+            None => None,
+        }
+    }
+
+    pub fn scalars(self) -> Scalars
+        ensures same { result ≡ self }
+        ensures moves { self.moving < row_count }
+    {
+        self.scalars
+    }
+
+    pub fn row(self) -> Row
+        ensures { result ≡ self.moving }
+    {
+        Row::of(self.scalars.moving.number()).unwrap()
     }
 }

@@ -1,7 +1,7 @@
 // Sums over ticks and longest lengths. They are brought up to date before a number changes: since then it has been what it is.
 // Server v is counted as v, queue q as `SERVERS` + q.
 ghost use Rattle.std.specs.Prelude.{◌≡◌, ◌+◌, ◌<◌, ◌≤◌};
-ghost use Rattle.machine.specs.All.{max, max_queues};
+ghost use Rattle.machine.specs.All.{max_queues};
 ghost use Rattle.layout.specs.All.{server_count, measured_count};
 ghost use Rattle.state.specs.Ticks.{most_ticks};
 ghost use Rattle.state.specs.Statistics.{ticks_since, behind, sum_now, longest_now, see, store_server, update_server, store_queue, update_queue};
@@ -11,18 +11,14 @@ use layout::{
     CLOCK_MOVES, CONTENT, CONTENT_TICKS, IN_USE, LONGEST_CONTENT, LONGEST_QL, QL_LENGTH,
     SEEN_CLOCK, SEEN_MOVES, SERVERS, UNIT_TICKS, WAIT_TICKS, count, set_count,
 };
-use saturating::{less64, plus64};
 
 // The ticks since i was brought up to date, no more than a clock has.
 fn ticks_since(tally: &[u64], i: usize, clock: u64) -> u64
     requires { i < measured_count }
     ensures { (result ≡ ticks_since tally.now i clock) × (result ≤ most_ticks) }
 {
-    let ticks = less64(clock, count(tally, SEEN_CLOCK + i));
-    if ticks <= MOST_TICKS {
-        return ticks;
-    }
-    MOST_TICKS
+    let ticks = clock.saturating_sub(count(tally, SEEN_CLOCK + i));
+    ticks.min(MOST_TICKS)
 }
 
 // Has the clock moved since i was brought up to date?
@@ -39,16 +35,8 @@ pub fn sum_now(tally: &[u64], at: usize, from: usize, i: usize, clock: u64) -> u
     ensures { result ≡ sum_now tally.now at from i clock }
 {
     let ticks = ticks_since(tally, i, clock);
-    plus64(count(tally, at), product(count(tally, from), ticks))
-}
-
-fn larger(a: u64, b: u64) -> u64
-    ensures { result ≡ max a b }
-{
-    if a < b {
-        return b;
-    }
-    a
+    let sum = count(tally, at);
+    sum.saturating_add(product(count(tally, from), ticks))
 }
 
 // The longest at `at`, with the number at `from` where the clock moved since.
@@ -57,7 +45,7 @@ pub fn longest_now(tally: &[u64], at: usize, from: usize, i: usize) -> u64
     ensures { result ≡ longest_now tally.now at from i }
 {
     if behind(tally, i) {
-        return larger(count(tally, at), count(tally, from));
+        return count(tally, at).max(count(tally, from));
     }
     count(tally, at)
 }

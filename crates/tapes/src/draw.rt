@@ -1,13 +1,14 @@
 // One time from a distribution.
 ghost use Rattle.std.specs.Prelude.{◌≡◌, ◌+◌, ◌≤◌, ◌<◌};
 ghost use Rattle.machine.specs.All.{List, ℕ};
-ghost use Rattle.floats.specs.Limits.{draw_parts, max_time};
+ghost use Rattle.floats.specs.Limits.{draw_parts};
 ghost use Rattle.floats.specs.Value.{Is};
-ghost use Rattle.streams.specs.Stream.{Inside};
-ghost use Rattle.tapes_laws.specs.Source.{Point, Source, draw_of, around, after, time_of};
+ghost use Rattle.tapes_laws.specs.declared.Point.{Point};
+ghost use Rattle.tapes_laws.specs.Source.{Source, draw_of, around, after, time_of};
 ghost use Rattle.tapes_laws.specs.Held.{Points, Meant, Surrounds};
 
 use floats::Segment;
+use streams::State;
 use tapes_laws::Distribution;
 
 // "(r - 1) divided by 32,768, whole part"
@@ -17,18 +18,19 @@ const STATES_PER_PART: u32 = 32_768;
 #[derive(Clone, Copy)]
 pub struct Drawn {
     pub time: u64,
-    pub state: u32,
+    pub state: State,
 }
 
 // The u of a state.
-pub fn uniform(r: u32) -> f64
-    requires { Inside r }
-    ensures { Is result (draw_of r) draw_parts }
+pub fn uniform(state: State) -> f64
+    ensures value { Is result (draw_of state) draw_parts }
+    ensures below { draw_of state < draw_parts }
 {
-    floats::fraction((r - 1) / STATES_PER_PART)
+    floats::fraction((state.number() - 1) / STATES_PER_PART)
 }
 
 // The segment of a curve around u. The last u of a curve is 1, so the walk ends inside it.
+// kept: `windows(4).step_by(2)` goes over a slice cut at `first`, which may lie past the end: a test more, and no shorter.
 pub fn segment(numbers: &[f64], first: u32, u: f64) -> Segment
     ensures { (p : Point) (l : List Point) (v : ℕ) → Points numbers.now first p l → p.u ≤ v → v < draw_parts → Is u v draw_parts
         → Surrounds result (around p l v) v }
@@ -54,10 +56,8 @@ pub fn segment(numbers: &[f64], first: u32, u: f64) -> Segment
 }
 
 // The time that a distribution gives from a state, and the state then.
-pub fn draw(numbers: &[f64], d: Distribution, state: u32) -> Drawn
-    requires { Inside state }
-    ensures time_value { (s : Source) → Meant numbers.now d s → (result.time ≡ time_of s state) × (result.state ≡ after s state) }
-    ensures inside { Inside result.state }
+pub fn draw(numbers: &[f64], d: Distribution, state: State) -> Drawn
+    ensures { (s : Source) → Meant numbers.now d s → (result.time ≡ time_of s state) × (result.state ≡ after s state) }
 {
     match d {
         Distribution::Fixed(x) => Drawn {
@@ -65,15 +65,15 @@ pub fn draw(numbers: &[f64], d: Distribution, state: u32) -> Drawn
             state,
         },
         Distribution::Spread(mean, half) => {
-            let r = streams::step(state);
-            let u = uniform(r);
+            let behind = state.next();
+            let u = uniform(behind);
             Drawn {
                 time: floats::whole_part(floats::spread(mean, half, u)),
-                state: r,
+                state: behind,
             }
         }
         Distribution::Curve(first) => {
-            let behind = streams::step(state);
+            let behind = state.next();
             let v = uniform(behind);
             let s = segment(numbers, first, v);
             Drawn {

@@ -1,17 +1,14 @@
 // What a call gives, checked: doubles, distributions and lists.
-ghost use Rattle.std.specs.Prelude.{◌≡◌, ◌+◌, ◌*◌, ◌≤◌, ◌<◌};
+ghost use Rattle.std.specs.Prelude.{◌≡◌, ◌+◌, ◌*◌, ◌≤◌, ◌<◌, Some};
 ghost use Rattle.machine.specs.All.{ℕ, length};
-ghost use Rattle.floats.specs.Answers.{count_of};
-ghost use Rattle.tapes_laws.specs.Limits.{most_times};
-ghost use Rattle.tapes_laws.specs.Given.{time_at, u_at, fixed_at, spread_at, point_at, points_behind, curve_at, source_at, list_at_lem, lists_from};
-ghost use Rattle.tapes_laws.specs.Held.{Chosen, Listing};
-ghost use Rattle.tapes_laws.specs.Answers.{point_of, step_of, corner, is_given};
+ghost use Rattle.tapes_laws.specs.Limits.{most_lists};
+ghost use Rattle.tapes_laws.specs.Given.{counted_at, fixed_at, spread_at, point_at, points_behind, curve_at, source_at, list_at_lem};
+ghost use Rattle.tapes_laws.specs.Held.{Chosen, Listing, Reading};
+ghost use Rattle.tapes_laws.specs.Answers.{step_of, is_given};
 
-use floats::Parts;
-use tapes_laws::{Choice, Distribution, Point, Row};
-
-// "a count per list (0..65,535)"
-const MOST_TIMES: u32 = 65_535;
+use super::{MOST_LISTS, NUMBERS_PER_LIST};
+use floats::Scale;
+use tapes_laws::{Distribution, Kind, Point, Row};
 
 // "mean at most 500,000", in 64ths
 const MAX_MEAN_PARTS: u64 = 32_000_000;
@@ -24,174 +21,144 @@ const MOST_POINTS: u32 = 24;
 // u = 1, in 65,536ths
 const LAST_U: u64 = 65_536;
 
-// The time at an index, in 64ths.
-pub fn time_at(numbers: &[f64], at: usize) -> Parts
-    ensures { count_of result ≡ time_at numbers.now at }
+// The double at an index, counted on a scale.
+pub fn count_at(numbers: &[f64], at: usize, scale: Scale) -> Option<u64>
+    ensures { result ≡ counted_at scale numbers.now at }
 {
     if numbers.len() <= at {
-        return Parts::Refused;
+        return None;
     }
-    floats::time_parts(numbers[at])
+    scale.count(numbers[at])
 }
 
-// The u at an index, in 65,536ths.
-pub fn u_at(numbers: &[f64], at: usize) -> Parts
-    ensures { count_of result ≡ u_at numbers.now at }
-{
-    if numbers.len() <= at {
-        return Parts::Refused;
-    }
-    floats::draw_parts(numbers[at])
-}
-
-pub fn fixed(numbers: &[f64], first: u32) -> Choice
+pub fn fixed(numbers: &[f64], first: u32) -> Option<Distribution>
     ensures { Chosen numbers.now result (fixed_at numbers.now first) }
 {
     let at = first as usize;
-    let Parts::Count(_) = time_at(numbers, at) else {
-        return Choice::Refused;
-    };
-    Choice::Taken(Distribution::Fixed(numbers[at]))
+    count_at(numbers, at, Scale::Time)?;
+    Some(Distribution::Fixed(numbers[at]))
 }
 
-pub fn spread(numbers: &[f64], first: u32) -> Choice
+pub fn spread(numbers: &[f64], first: u32) -> Option<Distribution>
     ensures { Chosen numbers.now result (spread_at numbers.now first) }
 {
     let at = first as usize;
-    let Parts::Count(mean) = time_at(numbers, at) else {
-        return Choice::Refused;
-    };
-    let Parts::Count(half) = time_at(numbers, at + 1) else {
-        return Choice::Refused;
-    };
+    let mean = count_at(numbers, at, Scale::Time)?;
+    let half = count_at(numbers, at + 1, Scale::Time)?;
     if mean < half {
-        return Choice::Refused;
+        return None;
     }
     if MAX_MEAN_PARTS < mean {
-        return Choice::Refused;
+        return None;
     }
-    Choice::Taken(Distribution::Spread(numbers[at], numbers[at + 1]))
+    Some(Distribution::Spread(numbers[at], numbers[at + 1]))
 }
 
 // The point whose first double is at an index.
-pub fn point_at(numbers: &[f64], at: usize) -> Point
-    ensures { point_of result ≡ point_at numbers.now at }
+pub fn point_at(numbers: &[f64], at: usize) -> Option<Point>
+    ensures { result ≡ point_at numbers.now at }
 {
-    let Parts::Count(u) = u_at(numbers, at) else {
-        return Point::Refused;
-    };
-    let Parts::Count(time) = time_at(numbers, at + 1) else {
-        return Point::Refused;
-    };
-    Point::At(u, time)
+    let u = count_at(numbers, at, Scale::Draw)?;
+    let time = count_at(numbers, at + 1, Scale::Time)?;
+    Some(Point { u, time })
 }
 
-// The point at an index, if it may follow the one at u and time.
-pub fn next_point(numbers: &[f64], at: usize, u: u64, time: u64) -> Point
-    ensures result_value { point_of result ≡ step_of numbers.now at (corner u time) }
-    ensures inside { (v t : ℕ) → result ≡ Point.At v t → at < length numbers.now }
+// The point at an index, if it may follow another.
+pub fn next_point(numbers: &[f64], at: usize, before: Point) -> Option<Point>
+    ensures result_value { result ≡ step_of numbers.now at before }
+    ensures inside { (p : Point) → result ≡ Some p → at < length numbers.now }
 {
-    let Point::At(v, t) = point_at(numbers, at) else {
-        return Point::Refused;
-    };
-    if v <= u {
-        return Point::Refused;
+    let p = point_at(numbers, at)?;
+    if p.u <= before.u {
+        return None;
     }
-    if t < time {
-        return Point::Refused;
+    if p.time < before.time {
+        return None;
     }
-    Point::At(v, t)
+    Some(p)
 }
 
-// Whether that many points from an index on may follow the one at u0 and time0, the last at 1.
-pub fn points_behind(numbers: &[f64], start: usize, count: u32, u0: u64, time0: u64) -> bool
+// Whether that many points from an index on may follow the first, the last at 1.
+pub fn points_behind(numbers: &[f64], start: usize, count: u32, first: Point) -> bool
     requires { start ≤ 4294967297 }
-    ensures { result ≡ is_given (points_behind numbers.now count start (corner u0 time0)) }
+    ensures { result ≡ is_given (points_behind numbers.now count start first) }
 {
-    let mut left = count;
     let mut at = start;
-    let mut u = u0;
-    let mut time = time0;
-    while 0 < left {
-        let Point::At(v, t) = next_point(numbers, at, u, time) else {
+    let mut last = first;
+    for _ in 0..count {
+        let Some(next) = next_point(numbers, at, last) else {
             return false;
         };
-        u = v;
-        time = t;
+        last = next;
         at += 2;
-        left -= 1;
     }
-    u == LAST_U
+    last.u == LAST_U
 }
 
-pub fn curve(numbers: &[f64], first: u32, points: u32) -> Choice
+pub fn curve(numbers: &[f64], first: u32, points: u32) -> Option<Distribution>
     ensures { Chosen numbers.now result (curve_at numbers.now first points) }
 {
     let at = first as usize;
     if points < FEWEST_POINTS {
-        return Choice::Refused;
+        return None;
     }
     if MOST_POINTS < points {
-        return Choice::Refused;
+        return None;
     }
-    let Point::At(u, time) = point_at(numbers, at) else {
-        return Choice::Refused;
-    };
-    if u != 0 {
-        return Choice::Refused;
+    let p = point_at(numbers, at)?;
+    if p.u != 0 {
+        return None;
     }
-    if points_behind(numbers, at + 2, points - 1, u, time) {
-        return Choice::Taken(Distribution::Curve(first));
+    if points_behind(numbers, at + 2, points - 1, p) {
+        return Some(Distribution::Curve(first));
     }
-    Choice::Refused
+    None
 }
 
-pub fn choose(numbers: &[f64], kind: u32, first: u32, points: u32) -> Choice
+pub fn choose(numbers: &[f64], kind: u32, first: u32, points: u32) -> Option<Distribution>
     ensures { Chosen numbers.now result (source_at numbers.now kind first points) }
 {
-    if kind == 2 {
-        return curve(numbers, first, points);
+    match Kind::of(kind)? {
+        Kind::Curve => curve(numbers, first, points),
+        Kind::Fixed => {
+            if points != 0 {
+                return None;
+            }
+            fixed(numbers, first)
+        }
+        Kind::Spread => {
+            if points != 0 {
+                return None;
+            }
+            spread(numbers, first)
+        }
     }
-    if points != 0 {
-        return Choice::Refused;
-    }
-    if kind == 0 {
-        return fixed(numbers, first);
-    }
-    if kind == 1 {
-        return spread(numbers, first);
-    }
-    Choice::Refused
 }
 
-// List k, counted from 0.
-pub fn list_at(lists: &[u32], numbers: &[f64], k: usize) -> Row
-    requires { k * 4 + 3 < length lists.now }
-    ensures listing { Listing numbers.now result (list_at_lem lists.now numbers.now k) }
-    ensures inside { (d : Distribution) (n : ℕ) → result ≡ Row.Given d n → n ≤ most_times }
+// A list from its kind, its count of times ("0..65,535"), its first double and its number of points.
+pub fn row_of(list: [u32; NUMBERS_PER_LIST], numbers: &[f64]) -> Option<Row>
+    ensures { Listing numbers.now result (list_at_lem list numbers.now 0) }
 {
-    let at = k * 4;
-    let count = lists[at + 1];
-    if MOST_TIMES < count {
-        return Row::Barred;
-    }
-    let Choice::Taken(d) = choose(numbers, lists[at], lists[at + 2], lists[at + 3]) else {
-        return Row::Barred;
-    };
-    Row::Given(d, count)
+    let [kind, count, first, points] = list;
+    let count = u16::try_from(count).ok()?;
+    let distribution = choose(numbers, kind, first, points)?;
+    Some(Row {
+        distribution,
+        count,
+    })
 }
 
-// Whether all of that many lists are within the rules.
-pub fn all_given(lists: &[u32], numbers: &[f64], count: usize) -> bool
-    requires { count * 4 ≤ length lists.now }
-    ensures { result ≡ is_given (lists_from lists.now numbers.now count 0) }
+// The lists, where all are within the rules: as many in front as were given.
+pub fn rows_of(lists: &[[u32; NUMBERS_PER_LIST]], numbers: &[f64]) -> Option<[Row; MOST_LISTS]>
+    requires { length lists.now ≤ most_lists }
+    ensures { Reading numbers.now lists.now result }
 {
-    let mut k = 0;
-    while k < count {
-        let Row::Given(_, _) = list_at(lists, numbers, k) else {
-            return false;
-        };
-        k += 1;
+    let mut rows = [Row {
+        distribution: Distribution::Fixed(0.0),
+        count: 0,
+    }; MOST_LISTS];
+    for k in 0..lists.len() {
+        rows[k] = row_of(lists[k], numbers)?;
     }
-    true
+    Some(rows)
 }

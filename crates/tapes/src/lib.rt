@@ -7,15 +7,13 @@ mod draw;
 mod given;
 mod write;
 
-ghost use Rattle.machine.specs.All.{length};
-ghost use Rattle.streams.specs.Stream.{Inside};
 ghost use Rattle.tapes_laws.specs.Given.{lists_of};
 ghost use Rattle.tapes_laws.specs.Held.{Maker};
 ghost use Rattle.tapes_laws.specs.Contract.{Contract};
 
-use given::all_given;
-use streams::Started;
-use tapes_laws::Made;
+use constants::Refusal;
+use given::rows_of;
+use streams::State;
 use write::{measure, write};
 
 // The numbers that stand for one list.
@@ -25,34 +23,37 @@ const NUMBERS_PER_LIST: usize = 4;
 const MOST_LISTS: usize = 16;
 
 // A tape from a stream's state: 42 list by list, then 43, then its bytes.
-fn make_from(state: u32, lists: &[u32], numbers: &[f64], tape: &mut [u8]) -> Made
-    requires { Inside state }
+fn make_from(
+    state: State,
+    lists: &[u32],
+    numbers: &[f64],
+    tape: &mut [u8],
+) -> Result<usize, Refusal>
     ensures { Maker (lists_of lists.now numbers.now) state tape.old result tape.new }
 {
-    if lists.len() % NUMBERS_PER_LIST != 0 {
-        return Made::Refused(42);
+    let (fours, others) = lists.as_chunks::<NUMBERS_PER_LIST>();
+    if !others.is_empty() {
+        return Err(Refusal::ListRules);
     }
-    let count = lists.len() / NUMBERS_PER_LIST;
-    if MOST_LISTS < count {
-        return Made::Refused(42);
+    if MOST_LISTS < fours.len() {
+        return Err(Refusal::ListRules);
     }
-    if !all_given(lists, numbers, count) {
-        return Made::Refused(42);
-    }
-    let bytes = measure(lists, numbers, count, state);
+    let Some(rows) = rows_of(fours, numbers) else {
+        return Err(Refusal::ListRules);
+    };
+    let rows = &rows[..fours.len()];
+    let bytes = measure(rows, numbers, state);
     if tape.len() < bytes {
-        return Made::Refused(43);
+        return Err(Refusal::TapeRoom);
     }
-    write(tape, lists, numbers, count, state);
-    Made::Bytes(bytes)
+    write(tape, rows, numbers, state);
+    Ok(bytes)
 }
 
 // Makes the tape of up to 16 lists, in order, from a stream.
-pub fn make(stream: u32, lists: &[u32], numbers: &[f64], tape: &mut [u8]) -> Made
+pub fn make(stream: u32, lists: &[u32], numbers: &[f64], tape: &mut [u8]) -> Result<usize, Refusal>
     ensures { Contract stream lists.now numbers.now tape.old result tape.new }
 {
-    match streams::start(stream) {
-        Started::Refused(n) => Made::Refused(n),
-        Started::State(state) => make_from(state, lists, numbers, tape),
-    }
+    let state = streams::start(stream)?;
+    make_from(state, lists, numbers, tape)
 }

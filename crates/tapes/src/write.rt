@@ -1,112 +1,101 @@
-// A tape measured, and written.
-ghost use Rattle.std.specs.Prelude.{◌≡◌, ◌+◌, ◌*◌, ◌≤◌};
-ghost use Rattle.machine.specs.All.{List, some, ℕ, length, sets};
-ghost use Rattle.streams.specs.Stream.{Inside};
-ghost use Rattle.tapes_laws.specs.Limits.{most_lists, most_times};
-ghost use Rattle.tapes_laws.specs.Source.{Source};
-ghost use Rattle.tapes_laws.specs.Given.{Listed, lists_from};
-ghost use Rattle.tapes_laws.specs.Tape.{tape_bytes, times_bytes};
-ghost use Rattle.tapes_laws.specs.Held.{Meant, TimesMeasured, TimesWritten};
+// A tape measured, and written: one walk over its numbers, and two things that are done with each.
+ghost use Rattle.std.specs.Prelude.{◌≡◌, ◌≤◌, min, ◌-◌, ◌^◌};
+ghost use Rattle.machine.specs.All.{List, ℕ, length, sets};
+ghost use Rattle.tapes_laws.specs.Source.{Source, times_of, state_after};
+ghost use Rattle.tapes_laws.specs.Given.{Listed};
+ghost use Rattle.tapes_laws.specs.Tape.{tape_numbers, tape_bytes};
+ghost use Rattle.tapes_laws.specs.Held.{Meant, Rows, Steps, Measures, Writes};
 
 use super::draw::draw;
-use super::given::list_at;
 use codec::{number_len, write_number};
+use streams::State;
 use tapes_laws::{Distribution, Row};
 
-// Bytes so far, and the state of the stream.
+// What is done with each number of a tape, at a position of a buffer.
+pub trait Step {
+    ghost step: { ℕ → List ℕ → ℕ → ℕ → List ℕ → Type 0 };
+
+    // The position behind the number.
+    fn put(tape: &mut [u8], at: usize, number: u64) -> usize
+        ensures { step number tape.old at result tape.new };
+}
+
+// It is counted.
+pub struct Measuring;
+
+impl Step for Measuring {
+    ghost step = { Measures };
+
+    fn put(_tape: &mut [u8], at: usize, number: u64) -> usize {
+        at.saturating_add(number_len(number))
+    }
+}
+
+// It is written.
+pub struct Writing;
+
+impl Step for Writing {
+    ghost step = { Writes };
+
+    fn put(tape: &mut [u8], at: usize, number: u64) -> usize {
+        write_number(tape, at, number)
+    }
+}
+
+// A position in the buffer, and the state of the stream.
 #[derive(Clone, Copy)]
 pub struct Progress {
-    pub bytes: usize,
-    pub state: u32,
+    pub at: usize,
+    pub state: State,
 }
 
-// How many bytes a list's times take.
-pub fn measure_times(numbers: &[f64], d: Distribution, count: u32, state: u32) -> Progress
-    requires inside_2 { Inside state }
-    requires count_le_most_times { count ≤ most_times }
-    ensures times_measured { (s : Source) → Meant numbers.now d s → TimesMeasured s count state result.bytes result.state }
-    ensures inside { Inside result.state × (result.bytes ≤ 9 * count) }
-{
-    let mut left = count;
-    let mut bytes: usize = 0;
-    let mut r = state;
-    while 0 < left {
-        let x = draw(numbers, d, r);
-        bytes += number_len(x.time);
-        r = x.state;
-        left -= 1;
-    }
-    Progress { bytes, state: r }
-}
-
-// How many bytes that many lists take.
-pub fn measure(lists: &[u32], numbers: &[f64], count: usize, state: u32) -> usize
-    requires inside { Inside state }
-    requires count_in_bounds { (count * 4 ≤ length lists.now) × (count ≤ most_lists) }
-    ensures { (ls : List Listed) → lists_from lists.now numbers.now count 0 ≡ some ls → result ≡ length (tape_bytes ls state) }
-{
-    let mut k: usize = 0;
-    let mut bytes: usize = 0;
-    let mut r = state;
-    while k < count {
-        let Row::Given(d, n) = list_at(lists, numbers, k) else {
-            return bytes;
-        };
-        let p = measure_times(numbers, d, n, r);
-        bytes += number_len(n as u64) + p.bytes;
-        r = p.state;
-        k += 1;
-    }
-    bytes
-}
-
-// Writes a list's times from a position on.
-pub fn write_times(
+// Goes over a list's times.
+pub fn walk_times<S: Step>(
     tape: &mut [u8],
     start: usize,
     numbers: &[f64],
-    d: Distribution,
-    count: u32,
-    state: u32,
+    row: Row,
+    state: State,
 ) -> Progress
-    requires { Inside state }
-    ensures times_written { (s : Source) → Meant numbers.now d s → start + length (times_bytes s count state) ≤ length tape.old
-        → TimesWritten s count state start tape.old tape.new result.bytes result.state }
-    ensures inside { Inside result.state }
+    ensures { (s : Source) → Meant numbers.now row.distribution s
+        → Steps S.step (times_of s row.count state) tape.old start result.at tape.new × (result.state ≡ state_after s row.count state) }
 {
-    let mut left = count;
     let mut at = start;
     let mut r = state;
-    while 0 < left {
-        let x = draw(numbers, d, r);
-        at = write_number(tape, at, x.time);
+    for _ in 0..row.count {
+        let x = draw(numbers, row.distribution, r);
+        at = S::put(tape, at, x.time);
         r = x.state;
-        left -= 1;
     }
-    Progress {
-        bytes: at,
-        state: r,
-    }
+    Progress { at, state: r }
 }
 
-// Writes the count and the times of each of that many lists, from the front on.
-pub fn write(tape: &mut [u8], lists: &[u32], numbers: &[f64], count: usize, state: u32)
-    requires inside { Inside state }
-    requires count_in_bounds { count * 4 ≤ length lists.now }
-    ensures { (ls : List Listed) → lists_from lists.now numbers.now count 0 ≡ some ls
-        → length (tape_bytes ls state) ≤ length tape.old → tape.new ≡ sets tape.old 0 (tape_bytes ls state) }
+// Goes over the count and the times of each list.
+pub fn walk<S: Step>(tape: &mut [u8], rows: &[Row], numbers: &[f64], state: State) -> usize
+    ensures { (ls : List Listed) → Rows numbers.now rows.now ls → Steps S.step (tape_numbers ls state) tape.old 0 result tape.new }
 {
-    let mut k: usize = 0;
     let mut at: usize = 0;
     let mut r = state;
-    while k < count {
-        let Row::Given(d, n) = list_at(lists, numbers, k) else {
-            return;
-        };
-        let behind = write_number(tape, at, n as u64);
-        let p = write_times(tape, behind, numbers, d, n, r);
-        at = p.bytes;
+    for row in rows {
+        let behind = S::put(tape, at, row.count as u64);
+        let p = walk_times::<S>(tape, behind, numbers, *row, r);
+        at = p.at;
         r = p.state;
-        k += 1;
     }
+    at
+}
+
+// How many bytes the lists take, up to the largest number.
+pub fn measure(rows: &[Row], numbers: &[f64], state: State) -> usize
+    ensures { (ls : List Listed) → Rows numbers.now rows.now ls → result ≡ min (length (tape_bytes ls state)) (2 ^ 64 - 1) }
+{
+    walk::<Measuring>(&mut [], rows, numbers, state)
+}
+
+// Writes the count and the times of each list, from the front on.
+pub fn write(tape: &mut [u8], rows: &[Row], numbers: &[f64], state: State)
+    ensures { (ls : List Listed) → Rows numbers.now rows.now ls
+        → length (tape_bytes ls state) ≤ length tape.old → tape.new ≡ sets tape.old 0 (tape_bytes ls state) }
+{
+    walk::<Writing>(tape, rows, numbers, state);
 }

@@ -1,14 +1,17 @@
 -- The tape made is taken by validation, pure: number by number, each in its range, list by list, and nothing behind.
-use Rattle.machine.specs.All.{ℕ, zero, suc, ◌+◌, ◌/◌, ◌≤◌, add_assoc, add-zero, zero-add, arith, Bool, true, false, cond, List, [], ◌∷◌, ◌++◌, append_assoc, append-nil, Option, none, some, ◌≡◌, refl, sym, ap, ◌∙◌, leb, length, drop, length-append, eq-eqb, in_force, number_bytes, parsed, continue, ask, times, field_up_to, list_field, at_end, tape_of}
+use Rattle.machine.specs.All.{ℕ, zero, suc, ◌+◌, ◌/◌, ◌≤◌, add_assoc, add-zero, zero-add, arith, Bool, true, false, cond, List, [], ◌∷◌, ◌++◌, append_assoc, append-nil, ◌≡◌, refl, sym, ap, ◌∙◌, leb, length, drop, length-append, eq-eqb, in_force, number_bytes, parsed, continue, ask, times, field_up_to, list_field, at_end, tape_of}
+use Rattle.std.specs.Prelude.{Option, None as none, Some as some}
 use lib.Ieee.{Float}
 use Rattle.machine.specs.Limits as Machine
 use Rattle.codec.specs.Answers.{cursor_at}
 use Rattle.codec.proofs.Fields.{field-reads, drop_past}
-use Rattle.streams.specs.declared.Started.{Started}
-use Rattle.streams.specs.declared.Started.TheVariants.{State, Refused}
+use Rattle.std.specs.Prelude.{Result, Ok, Err}
+use Rattle.constants.specs.declared.refusals.Refusal.{Refusal}
+use Rattle.constants.specs.declared.refusals.Refusal.TheVariants.{NoStream}
+use Rattle.streams.proofs.Starts.{start-inside}
 use Rattle.streams.specs.Stream.{Inside, last_stream, start_of, beginning as start_state}
-use Rattle.tapes_laws.specs.{most_times, numbers_per_list, continue as next, ask as asked, time_of, times_of, Listed, list_at_lem, lists_from, lists_of, times_bytes, tape_bytes, tape_times, leaves, made, refusal, fitted, from_lists, from_start, make_tape, answer, Maker, Taken, Making}
-use Rattle.tapes_laws.specs.{Source.Source, declared.Made.Made, declared.Made.TheVariants.Refused as Unmade, Contract.Contract}
+use Rattle.tapes_laws.specs.{most_times, numbers_per_list, continue as next, ask as asked, time_of, times_of, Listed, list_at_lem, lists_from, lists_of, times_bytes, tape_bytes, tape_times, leaves, made, refusal, fitted, from_lists, from_start, make_tape, Maker, Taken, Making}
+use Rattle.tapes_laws.specs.{Source.Source, Contract.Contract}
 use Rattle.tapes_laws.proofs as our
 use our.{Reading.none-some, Times.bytes-none, Times.bytes-cons}
 use our.Tapes.{behind, tape-none, tape-step}
@@ -109,31 +112,31 @@ lists-from lists numbers ls e = go (asked _) e
     go (some a) h = h
 
 -- no tape without a start
-pub refused-start : {A : Type 0} (stream room n : ℕ) (o : Option (List Listed)) (b : List ℕ) → start_of stream ≡ Refused n →
+pub refused-start : {A : Type 0} (stream room : ℕ) (n : Refusal) (o : Option (List Listed)) (b : List ℕ) → start_of stream ≡ Err n →
     from_start (start_of stream) o room ≡ made b → A
 unfolding from_start
 refused-start stream room n o b e f = let g = rw e at f in let z : ◌≡◌ {A = ℕ} 0 1 = cc in absurd (omega arith)
 
-start-state : (stream state : ℕ) → start_of stream ≡ State state → start_state stream ≡ state
+start-state : (stream state : ℕ) → start_of stream ≡ Ok state → start_state stream ≡ state
 unfolding start_of
 start-state stream state e = go (leb stream last_stream) e
   where
-    go : (t : Bool) → cond t (State (start_state stream)) (Refused 41) ≡ State state → start_state stream ≡ state
+    go : (t : Bool) → cond t (Ok (start_state stream)) (Err NoStream) ≡ Ok state → start_state stream ≡ state
     go true h = cc
     go false h = let z : ◌≡◌ {A = ℕ} 0 1 = cc in absurd (omega arith)
 
 -- so every tape that `make` answers is taken
-pub made-taken : (stream state : ℕ) (lists : List ℕ) (numbers : List Float) (room : ℕ) → start_of stream ≡ State state → Inside state →
+pub made-taken : (stream state : ℕ) (lists : List ℕ) (numbers : List Float) (room : ℕ) → start_of stream ≡ Ok state →
     (b : List ℕ) → make_tape stream lists numbers room ≡ made b → (ls : List Listed) → lists_of lists numbers ≡ some ls →
     Taken b (length lists / numbers_per_list) (tape_times ls (start_state stream))
 unfolding make_tape from_start from_lists fitted
-made-taken stream state lists numbers room start inside b e ls f =
+made-taken stream state lists numbers room start b e ls f =
     let from = lists-from lists numbers ls f in
     let tape : b ≡ tape_bytes ls state = fit (leb (length (tape_bytes ls state)) room)
-    (sym (ap (λ (x : Started). from_start x (lists_of lists numbers) room) start
+    (sym (ap (λ (x : Result ℕ Refusal). from_start x (lists_of lists numbers) room) start
     ∙ ap (λ (o : Option (List Listed)). from_lists o state room) f) ∙ e) in
     rw (tape, start-state stream state start, ← lists_length lists numbers (length lists / numbers_per_list) 0 ls from)
-    (tape-taken ls state (lists-sound lists numbers (length lists / numbers_per_list) 0 ls from) inside)
+    (tape-taken ls state (lists-sound lists numbers (length lists / numbers_per_list) 0 ls from) (start-inside stream start))
   where
     fit : (t : Bool) → cond t (made (tape_bytes ls state)) (refusal 43) ≡ made b → b ≡ tape_bytes ls state
     fit true h = cc
@@ -143,24 +146,24 @@ made-taken stream state lists numbers room start inside b e ls f =
 
 module _ (stream : ℕ) (lists : List ℕ) (numbers : List Float) (before : List ℕ) where
   -- 41: a stream that is not there leaves the buffer
-  pub contract-refused : (n : ℕ) → start_of stream ≡ Refused n → Contract stream lists numbers before (Unmade n) before
-  unfolding make_tape from_start answer leaves
+  pub contract-refused : (n : Refusal) → start_of stream ≡ Err n → Contract stream lists numbers before (Err n) before
+  unfolding make_tape from_start leaves
   contract-refused n e =
       record {
-        answered = rw e;
-        bytes = rw e;
+        answered = rw e refl;
+        bytes = rw e refl;
         accepted = λ b f ls g. refused-start stream (length before) n (lists_of lists numbers) b e f;
       }
 
   -- else the tape is made from the state where the stream begins
-  pub contract-made : (state : ℕ) (r : Made) (behind : List ℕ) → start_of stream ≡ State state → Inside state →
+  pub contract-made : (state : ℕ) (r : Result ℕ Refusal) (behind : List ℕ) → start_of stream ≡ Ok state →
       Maker (lists_of lists numbers) state before r behind → Contract stream lists numbers before r behind
   unfolding make_tape from_start
-  contract-made state r behind e inside maker =
+  contract-made state r behind e maker =
       let it : make_tape stream lists numbers (length before) ≡ from_lists (lists_of lists numbers) state (length before) =
-      ap (λ (x : Started). from_start x (lists_of lists numbers) (length before)) e in
+      ap (λ (x : Result ℕ Refusal). from_start x (lists_of lists numbers) (length before)) e in
       record {
-        answered = maker.answered ∙ sym (ap answer it);
+        answered = rw it maker.answered;
         bytes = maker.bytes ∙ sym (ap (λ (m : Making). leaves m before) it);
-        accepted = made-taken stream state lists numbers (length before) e inside;
+        accepted = made-taken stream state lists numbers (length before) e;
       }

@@ -1,13 +1,17 @@
 -- A curve's points, pure: read one after the other, and what they stand for when all were taken.
-use Rattle.machine.specs.All.{cases, ℕ, zero, suc, ◌+◌, ◌-◌, ◌≤◌, ◌<◌, arith, Bool, true, false, List, [], ◌∷◌, Option, none, some, ◌≡◌, refl, ap, ◌∙◌, eqb, length, le-leb, lt-leb, lt-ltb, le-ltb, ltb-true, leb-true, eq-eqb, ne_eqb, eqb-true, cond, sym, subst}
+use Rattle.machine.specs.All.{cases, ℕ, zero, suc, ◌+◌, ◌-◌, ◌≤◌, ◌<◌, arith, Bool, true, false, List, [], ◌∷◌, ◌≡◌, refl, ap, ◌∙◌, eqb, length, le-leb, lt-leb, lt-ltb, le-ltb, ltb-true, leb-true, eq-eqb, ne_eqb, eqb-true, cond, sym, subst}
+use Rattle.std.specs.Prelude.{Option, None as none, Some as some}
 use lib.Ieee.{Float}
 use Rattle.floats.specs.Limits.{draw_parts}
 use Rattle.codec.proofs.Fields.{both_true}
-use Rattle.tapes_laws.specs.{declared.Point.Point as Corner, declared.Point.TheVariants.At, declared.Point.TheVariants.Refused as Unread, declared.Distribution.TheVariants.Curve, declared.Choice.TheVariants.Taken, declared.Choice.TheVariants.Refused}
-use Rattle.tapes_laws.specs.{fewest_points, most_points, continue, ask, Point, curve, time_at, u_at, point_at, follows, points_behind, curve_at, PointIs, Points, Chosen, corner, point_of, step_of, is_given}
+use Rattle.tapes_laws.specs.{declared.Distribution.TheVariants.Curve}
+use Rattle.tapes_laws.specs.{fewest_points, most_points, continue, ask, Point, curve, time_at, u_at, point_at, follows, points_behind, curve_at, PointIs, Points, Chosen, step_of, is_given}
 use Rattle.tapes_laws.proofs.Reading.{none-some, time-inside, time-is, u-is}
 
 -- ---- One point
+
+abbrev pub corner : ℕ → ℕ → Point
+corner u time = record { u = u; time = time }
 
 module _ (numbers : List Float) (at : ℕ) where
   pub point_no-u : u_at numbers at ≡ none → none ≡ point_at numbers at
@@ -49,18 +53,6 @@ module _ (numbers : List Float) (at : ℕ) where
           continue o (λ u. continue (time_at numbers (at + 1)) (λ time. some (corner u time))) ≡ some p → PointIs numbers at p
       go none f h = none-some h
       go (some u) f h = timed u f (time_at numbers (at + 1)) refl h
-
--- what an answer says
-pub pointed : {r : Corner} {o : Option Point} {u time : ℕ} → point_of r ≡ o → r ≡ At u time → o ≡ some (corner u time)
-unfolding point_of
-pointed e h = sym e ∙ ap point_of h
-
-pub unpointed : {r : Corner} {o : Option Point} → point_of r ≡ o → r ≡ Unread → o ≡ none
-unfolding point_of
-unpointed e h = sym e ∙ ap point_of h
-
-pub no_point : {A : Type 0} {u time : ℕ} → Unread ≡ At u time → A
-no_point e = let z : ◌≡◌ {A = ℕ} 0 1 = cc in absurd (omega arith)
 
 pub point-inside : (numbers : List Float) (at : ℕ) (p : Point) → point_at numbers at ≡ some p → at < length numbers
 point-inside numbers at p e = omega (arith, (point-is numbers at p e).inside)
@@ -180,25 +172,25 @@ behind-points numbers (suc left) at p l is e = found (λ q m. behind-points numb
 
 module _ (numbers : List Float) (first points : ℕ) where
   -- the questions to a curve in their order: too few points,
-  pub curve-few : points < fewest_points → Chosen numbers Refused (curve_at numbers first points)
+  pub curve-few : points < fewest_points → Chosen numbers none (curve_at numbers first points)
   unfolding curve_at continue ask
   curve-few h = rw (lt-leb fewest_points points h) tt
 
   module _ (some-points : fewest_points ≤ points) where
     -- too many,
-    pub curve-many : most_points < points → Chosen numbers Refused (curve_at numbers first points)
+    pub curve-many : most_points < points → Chosen numbers none (curve_at numbers first points)
     unfolding curve_at continue ask
     curve-many h = rw (le-leb fewest_points points some-points, lt-leb points most_points h) tt
 
     module _ (few : points ≤ most_points) where
       -- no first point,
-      pub curve_no_point : point_at numbers first ≡ none → Chosen numbers Refused (curve_at numbers first points)
+      pub curve_no_point : point_at numbers first ≡ none → Chosen numbers none (curve_at numbers first points)
       unfolding curve_at continue ask
       curve_no_point e = rw (le-leb fewest_points points some-points, le-leb points most_points few, e) tt
 
       module _ {p : Point} (e : point_at numbers first ≡ some p) where
         -- a first u that is not 0,
-        pub curve-late : (p.u ≡ 0 → ⊥) → Chosen numbers Refused (curve_at numbers first points)
+        pub curve-late : (p.u ≡ 0 → ⊥) → Chosen numbers none (curve_at numbers first points)
         unfolding curve_at continue ask
         curve-late h = rw (le-leb fewest_points points some-points, le-leb points most_points few, e, ne_eqb p.u 0 h) tt
 
@@ -209,20 +201,20 @@ module _ (numbers : List Float) (first points : ℕ) where
 
           -- a point that does not rise, or a last u that is not 1
           pub curve-broken : false ≡ is_given (points_behind numbers (points - 1) (first + 2) p)
-              → Chosen numbers Refused (curve_at numbers first points)
+              → Chosen numbers none (curve_at numbers first points)
           unfolding continue is_given
           curve-broken h = rw rest (go (points_behind numbers (points - 1) (first + 2) p) h)
             where
-              go : (o : Option (List Point)) → false ≡ is_given o → Chosen numbers Refused (continue o (λ l. some (curve p l)))
+              go : (o : Option (List Point)) → false ≡ is_given o → Chosen numbers none (continue o (λ l. some (curve p l)))
               go none h = tt
               go (some l) h = let z : ◌≡◌ {A = ℕ} 0 1 = ap (λ (b : Bool). cond b 1 0) h in absurd (omega arith)
 
           pub curve-taken : true ≡ is_given (points_behind numbers (points - 1) (first + 2) p)
-              → Chosen numbers (Taken (Curve first)) (curve_at numbers first points)
+              → Chosen numbers (some (Curve first)) (curve_at numbers first points)
           unfolding continue is_given
           curve-taken h = rw rest (go (points_behind numbers (points - 1) (first + 2) p) refl h)
             where
               go : (o : Option (List Point)) → points_behind numbers (points - 1) (first + 2) p ≡ o → true ≡ is_given o →
-                  Chosen numbers (Taken (Curve first)) (continue o (λ l. some (curve p l)))
+                  Chosen numbers (some (Curve first)) (continue o (λ l. some (curve p l)))
               go none f h = let z : ◌≡◌ {A = ℕ} 0 1 = ap (λ (b : Bool). cond b 1 0) (sym h) in absurd (omega arith)
               go (some l) f h = (start, behind-points numbers (points - 1) first p l (point-is numbers first p e) f)

@@ -133,7 +133,7 @@ module _ (numbers : List Float) (d : Distribution) (s : Source) (state : ℕ) (m
       go (spread mean half) h = absurd h
       go (curve p l) h = absurd h
 
-  module _ (r : ℕ) (next-is : r ≡ next state) (inside : Inside r) (u : Float) (is : Is u (draw_of r) draw_parts) where
+  module _ (r : ℕ) (next-is : r ≡ next state) (below : draw_of r < draw_parts) (u : Float) (is : Is u (draw_of r) draw_parts) where
     pub spread-drawn : (x y z : Float) → d ≡ Spread x y →
         ((m h v : ℕ) → Width x y m h → Is u v draw_parts → v ≤ draw_parts → Exactly z (spread_over m h v) spread_under) →
         (whole_part_lem z ≡ time_of s state) × (r ≡ after s state)
@@ -142,11 +142,10 @@ module _ (numbers : List Float) (d : Distribution) (s : Source) (state : ℕ) (m
       where
         go : (s : Source) → Meant numbers (Spread x y) s → (whole_part_lem z ≡ time_of s state) × (r ≡ after s state)
         go (fixed t) h = absurd h
-        go (spread mean half) h =
-            let below = draw-inside inside in (
-              cc ((exact mean half _ h is (omega arith)).whole, next-is),
-              next-is,
-            )
+        go (spread mean half) h = (
+          cc ((exact mean half _ h is (omega (arith, below))).whole, next-is),
+          next-is,
+        )
         go (curve p l) h = absurd h
 
     pub curve-drawn : (first : ℕ) (seg : Segment) (z : Float) → d ≡ Curve first →
@@ -163,7 +162,7 @@ module _ (numbers : List Float) (d : Distribution) (s : Source) (state : ℕ) (m
         go (spread mean half) h = absurd h
         go (curve p l) h =
             let v = draw_of r in
-            let g = surrounds p l v h.1 (omega arith) (draw-inside inside) is in (
+            let g = surrounds p l v h.1 (omega arith) below is in (
               cc ((near _ _ _ _ v g.ends is g.from-most g.to-least).whole, next-is),
               next-is,
             )

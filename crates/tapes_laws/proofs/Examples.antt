@@ -1,6 +1,7 @@
 -- Tapes checked by hand. Stream 0 begins at 1; its states are 16807, 282475249, 1622650073, 984943658, 1144108930, .., so v is
 -- 0, 8620, 49519, 30058, 34915, 14349, ..
-use Rattle.machine.specs.All.{ℕ, List, [], ◌∷◌, true, false, some, ◌≡◌, refl, flat, upper, number_bytes}
+use Rattle.machine.specs.All.{ℕ, List, [], ◌∷◌, true, false, ◌≡◌, refl, flat, upper, number_bytes}
+use Rattle.std.specs.Prelude.{Some as some}
 use Rattle.std.specs.Prelude.{pos, negsuc, Float}
 use Rattle.std.specs.Float.{nan, inf, fin}
 use Rattle.floats.specs.Value.{parts_of}

@@ -1,9 +1,11 @@
 pub mod Reading
 pub mod Curves
 pub mod Lists
+pub mod Fours
 pub mod Drawing
 pub mod Times
 pub mod Tapes
+pub mod Walks
 pub mod Making
 pub mod Sound
 pub mod Accepted

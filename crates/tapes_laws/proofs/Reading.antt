@@ -1,13 +1,13 @@
 -- What a call gives, pure: what is read from the doubles, case by case.
-use Rattle.machine.specs.All.{cases, ℕ, ◌+◌, ◌≤◌, ◌<◌, arith, List, Option, none, some, ◌≡◌, ◌∙◌, length, get_or, get_or-eq_default, le-leb, lt-leb, ltb-true, sym, ap}
+use Rattle.machine.specs.All.{cases, ℕ, ◌+◌, ◌≤◌, ◌<◌, arith, List, ◌≡◌, refl, ◌∙◌, length, get_or, get_or-eq_default, le-leb, lt-leb, ltb-true}
+use Rattle.std.specs.Prelude.{Option, None as none, Some as some}
 use lib.Ieee.{Float, nan}
 use lib.Pow.{pow_pos}
-use Rattle.floats.specs.{Answers.count_of, declared.Parts.Parts, declared.Parts.TheVariants.Count, declared.Parts.TheVariants.Refused as Unread, Value.Is, Value.parts_of}
+use Rattle.floats.specs.{Value.Is, Value.parts_of, Scales.counted, declared.Scale.Scale, declared.Scale.TheVariants.Time, declared.Scale.TheVariants.Draw}
 use Rattle.floats.specs.Limits.{time_parts, max_time_parts, max_mean_parts, draw_parts}
 use Rattle.floats.proofs.Checked.{parts_is}
 use Rattle.tapes_laws.specs.declared.Distribution.TheVariants.{Fixed, Spread}
-use Rattle.tapes_laws.specs.declared.Choice.TheVariants.{Taken, Refused}
-use Rattle.tapes_laws.specs.{continue, ask, time_at, u_at, fixed_at, spread_at, Chosen}
+use Rattle.tapes_laws.specs.{continue, ask, time_at, u_at, counted_at, fixed_at, spread_at, Chosen}
 
 pub none-some : {A B : Type 0} {a : A} → ◌≡◌ {A = Option A} none (some a) → B
 none-some e = let z : ◌≡◌ {A = ℕ} 0 1 = cc in absurd (omega arith)
@@ -45,49 +45,50 @@ module _ (numbers : List Float) (at : ℕ) where
   unfolding u_at
   u-is {n} e = parts_is draw_parts draw_parts (pow_pos 16) (get_or numbers at nan) n e
 
--- what an answer says
-pub counted : {r : Parts} {o : Option ℕ} {n : ℕ} → count_of r ≡ o → r ≡ Count n → o ≡ some n
-unfolding count_of
-counted e h = sym e ∙ ap count_of h
+  -- on either scale
+  pub counted-past : (scale : Scale) → length numbers ≤ at → none ≡ counted_at scale numbers at
+  counted-past Time h = time-past h
+  counted-past Draw h = u-past h
 
-pub uncounted : {r : Parts} {o : Option ℕ} → count_of r ≡ o → r ≡ Unread → o ≡ none
-unfolding count_of
-uncounted e h = sym e ∙ ap count_of h
+  pub counted-there : (scale : Scale) → counted scale (get_or numbers at nan) ≡ counted_at scale numbers at
+  unfolding time_at u_at
+  counted-there Time = refl
+  counted-there Draw = refl
 
 -- ---- Fixed time and spread
 
 module _ (numbers : List Float) (first : ℕ) where
-  pub fixed-refused : time_at numbers first ≡ none → Chosen numbers Refused (fixed_at numbers first)
+  pub fixed-refused : time_at numbers first ≡ none → Chosen numbers none (fixed_at numbers first)
   unfolding fixed_at continue
   fixed-refused e = rw e tt
 
   pub fixed-taken : {n : ℕ} → time_at numbers first ≡ some n
-      → Chosen numbers (Taken (Fixed (get_or numbers first nan))) (fixed_at numbers first)
+      → Chosen numbers (some (Fixed (get_or numbers first nan))) (fixed_at numbers first)
   unfolding fixed_at continue
   fixed-taken e = rw e (time-is numbers first e)
 
-  pub spread_no_mean : time_at numbers first ≡ none → Chosen numbers Refused (spread_at numbers first)
+  pub spread_no_mean : time_at numbers first ≡ none → Chosen numbers none (spread_at numbers first)
   unfolding spread_at continue
   spread_no_mean e = rw e tt
 
   module _ {mean : ℕ} (e : time_at numbers first ≡ some mean) where
-    pub spread_no_half : time_at numbers (first + 1) ≡ none → Chosen numbers Refused (spread_at numbers first)
+    pub spread_no_half : time_at numbers (first + 1) ≡ none → Chosen numbers none (spread_at numbers first)
     unfolding spread_at continue
     spread_no_half f = rw (e, f) tt
 
     module _ {half : ℕ} (f : time_at numbers (first + 1) ≡ some half) where
       -- a half width above the mean would give times below 0
-      pub spread_wide : mean < half → Chosen numbers Refused (spread_at numbers first)
+      pub spread_wide : mean < half → Chosen numbers none (spread_at numbers first)
       unfolding spread_at continue ask
       spread_wide h = rw (e, f, lt-leb half mean h) tt
 
       -- a mean above half the limit could give times above it
-      pub spread-late : half ≤ mean → max_mean_parts < mean → Chosen numbers Refused (spread_at numbers first)
+      pub spread-late : half ≤ mean → max_mean_parts < mean → Chosen numbers none (spread_at numbers first)
       unfolding spread_at continue ask
       spread-late h k = rw (e, f, le-leb half mean h, lt-leb mean max_mean_parts k) tt
 
       pub spread-taken : half ≤ mean → mean ≤ max_mean_parts →
-          Chosen numbers (Taken (Spread (get_or numbers first nan) (get_or numbers (first + 1) nan))) (spread_at numbers first)
+          Chosen numbers (some (Spread (get_or numbers first nan) (get_or numbers (first + 1) nan))) (spread_at numbers first)
       unfolding spread_at continue ask
       spread-taken h k =
           rw (e, f, le-leb half mean h, le-leb mean max_mean_parts k)

@@ -1,5 +1,6 @@
 -- Sources within the rules, pure: every time that they give is at most 1,000,000.
-use Rattle.machine.specs.All.{ℕ, zero, suc, ◌+◌, ◌*◌, ◌-◌, ◌/◌, ◌≤◌, ◌<◌, add-mul, mul-le-mul_left, mul-le-mul_right, div-le_of_le-mul, arith, Bool, true, false, cond, ◌&&◌, List, [], ◌∷◌, Option, none, some, ◌≡◌, refl, sym, ap, ◌∙◌, subst, leb, ltb, eqb, get_or, ltb-true, ltb-false, leb-true, eqb-true}
+use Rattle.machine.specs.All.{ℕ, zero, suc, ◌+◌, ◌*◌, ◌-◌, ◌/◌, ◌≤◌, ◌<◌, add-mul, mul-le-mul_left, mul-le-mul_right, div-le_of_le-mul, arith, Bool, true, false, cond, ◌&&◌, List, [], ◌∷◌, ◌≡◌, refl, sym, ap, ◌∙◌, subst, leb, ltb, eqb, get_or, ltb-true, ltb-false, leb-true, eqb-true}
+use Rattle.std.specs.Prelude.{Option, None as none, Some as some}
 use lib.Ieee.{Float}
 use Rattle.codec.proofs.Fields.{both_true}
 use Rattle.floats.specs.Limits.{max_time, max_time_parts, max_mean_parts, draw_parts}

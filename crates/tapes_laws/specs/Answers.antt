@@ -1,21 +1,18 @@
 -- What the answers of this crate say in the paper's terms.
-use Rattle.machine.specs.All.{ℕ, Bool, true, false, List, Option, none, some, length}
-use Rattle.std.specs.Prelude.{Float}
-use Rattle.tapes_laws.specs.{declared.Made.Made, declared.Made.TheVariants.Bytes, declared.Made.TheVariants.Refused, declared.Point.Point as Corner, declared.Point.TheVariants.At, declared.Point.TheVariants.Refused as Unread, Options.◌>>=◌, Options.◌>>◌, Options.ask, Source.Point, Given.point_at, Given.follows, Tape.Making, Tape.made, Tape.refusal}
+use Rattle.machine.specs.All.{ℕ, Bool, true, false, List, length}
+use Rattle.std.specs.Prelude.{Float, ◌≡◌, Option, None as none, Some as some, Result, Ok, Err}
+use Rattle.constants.specs.Numbers.{refusal_number}
+use Rattle.constants.specs.declared.refusals.Refusal.{Refusal}
+use Rattle.tapes_laws.specs.{Options.◌>>=◌, Options.◌>>◌, Options.ask, Source.Point, Given.point_at, Given.follows, Tape.Making, Tape.made, Tape.refusal}
 
--- how many bytes the tape has, or the number of the refusal
-unfoldable pub answer : Making → Made
-answer (made b) = Bytes (length b)
-answer (refusal n) = Refused n
+-- an answer says how many bytes the tape has, or the number of the refusal
+abbrev pub Says : Result ℕ Refusal → Making → Type 0
+Says (Ok n) (made b) = n ≡ length b
+Says (Ok n) (refusal k) = ⊥
+Says (Err e) (made b) = ⊥
+Says (Err e) (refusal k) = refusal_number e ≡ k
 
 -- ---- Points
-
-abbrev pub corner : ℕ → ℕ → Point
-corner u time = record { u = u; time = time }
-
-unfoldable pub point_of : Corner → Option Point
-point_of (At u time) = some (corner u time)
-point_of Unread = none
 
 -- the next point, if it follows
 unfoldable pub step_of : List Float → ℕ → Point → Option Point

@@ -1,11 +1,13 @@
 -- What a call gives: for each list four numbers, and doubles. Kind 0 is a fixed time, 1 a spread, 2 a curve; then the count of
 -- times, the index of the first double, and the number of points, which is 0 but for a curve. A fixed time has one double, a
 -- spread mean and half, a curve u and time of each point. A double past the end counts as no number.
-use Rattle.machine.specs.All.{ℕ, zero, suc, Bool, cond, List, [], Option, none, some, ltb, leb, eqb, length, get_or}
+use Rattle.machine.specs.All.{ℕ, zero, suc, Bool, cond, List, [], ltb, leb, eqb, length, get_or}
+use Rattle.std.specs.Prelude.{Option, None as none, Some as some}
 use Rattle.std.specs.Prelude.{Float, ◌+◌, ◌*◌, ◌-◌, ◌/◌, ◌%◌, ◌&&◌, ◌∷◌}
 use Rattle.std.specs.Float.{nan}
 use Rattle.floats.specs.Limits.{time_parts, max_time_parts, max_mean_parts, draw_parts}
 use Rattle.floats.specs.Value.{parts_of}
+use Rattle.floats.specs.{declared.Scale.Scale, declared.Scale.TheVariants.Time, declared.Scale.TheVariants.Draw}
 use Rattle.tapes_laws.specs.Limits.{most_lists, most_times, fewest_points, most_points, numbers_per_list}
 use Rattle.tapes_laws.specs.Options.{◌>>=◌, ◌>>◌, ask}
 use Rattle.tapes_laws.specs.Source.{Point, Source, fixed, spread, curve}
@@ -19,6 +21,11 @@ time_at numbers at = parts_of time_parts max_time_parts (get_or numbers at nan)
 -- "u .. from 0 to 1 in 65,536ths"
 unfoldable pub u_at : List Float → ℕ → Option ℕ
 u_at numbers at = parts_of draw_parts draw_parts (get_or numbers at nan)
+
+-- a double on a scale
+abbrev pub counted_at : Scale → List Float → ℕ → Option ℕ
+counted_at Time numbers at = time_at numbers at
+counted_at Draw numbers at = u_at numbers at
 
 -- ---- Distributions
 
@@ -89,6 +96,14 @@ lists_from lists numbers zero k = some []
 lists_from lists numbers (suc left) k = do
   x ← list_at_lem lists numbers k
   l ← lists_from lists numbers left (k + 1)
+  some (x ∷ l)
+
+-- the same of lists apart, four numbers each
+unfoldable pub lists_in : List (List ℕ) → List Float → Option (List Listed)
+lists_in [] numbers = some []
+lists_in (four ∷ others) numbers = do
+  x ← list_at_lem four numbers 0
+  l ← lists_in others numbers
   some (x ∷ l)
 
 -- all of them; four numbers each, and no "seventeenth"

@@ -1,12 +1,15 @@
 -- Which doubles stand for which source, for contracts between functions of this crate.
-use Rattle.machine.specs.All.{ℕ, List, [], Option, none, some, length, get_or, sets}
-use Rattle.std.specs.Prelude.{Float, ◌+◌, ◌≤◌, ◌<◌, ◌∷◌, ◌≡◌}
+use Rattle.machine.specs.All.{ℕ, List, [], length, get_or, take, number_bytes}
+use Rattle.std.specs.Prelude.{Option, None as none, Some as some, Result}
+use Rattle.std.specs.Prelude.{Float, ◌+◌, ◌≤◌, ◌<◌, ◌∷◌, ◌≡◌, ◌-◌, ◌^◌, min}
+use Rattle.codec.specs.Writing.{written, put}
 use Rattle.std.specs.Float.{nan}
 use Rattle.floats.specs.{Limits.time_parts, Limits.max_time_parts, Limits.draw_parts, Value.Is, Line.Width, Line.Ends, declared.Segment.Segment}
-use Rattle.tapes_laws.specs.{declared.Distribution.Distribution, declared.Choice.Choice, declared.Choice.TheVariants.Taken, declared.Choice.TheVariants.Refused, declared.Row.Row, declared.Row.TheVariants.Given, declared.Row.TheVariants.Barred, Given.Listed, declared.Made.Made, Answers.answer}
+use Rattle.constants.specs.declared.refusals.Refusal.{Refusal}
+use Rattle.tapes_laws.specs.{declared.Distribution.Distribution, declared.Row.Row, Given.Listed, Given.lists_in, Answers.Says}
 use Rattle.tapes_laws.specs.declared.Distribution.TheVariants.{Fixed, Spread, Curve}
-use Rattle.tapes_laws.specs.Source.{Point, Source, fixed, spread, curve, Between, state_after}
-use Rattle.tapes_laws.specs.Tape.{times_bytes, from_lists, leaves}
+use Rattle.tapes_laws.specs.Source.{Point, Source, fixed, spread, curve, Between}
+use Rattle.tapes_laws.specs.Tape.{from_lists, leaves}
 
 -- the two doubles of a point
 pub record PointIs (numbers : List Float) (at : ℕ) (p : Point) : Type 0 where
@@ -33,17 +36,38 @@ Meant numbers (Curve i) (spread mean half) = ⊥
 Meant numbers (Curve i) (curve p l) = (p.u ≡ 0) × Points numbers i p l
 
 -- an answer that is a distribution, and the source that the definition has
-abbrev pub Chosen : List Float → Choice → Option Source → Type 0
-Chosen numbers (Taken d) none = ⊥
-Chosen numbers (Taken d) (some s) = Meant numbers d s
-Chosen numbers Refused none = Unit {0}
-Chosen numbers Refused (some s) = ⊥
+abbrev pub Chosen : List Float → Option Distribution → Option Source → Type 0
+Chosen numbers (some d) none = ⊥
+Chosen numbers (some d) (some s) = Meant numbers d s
+Chosen numbers none none = Unit {0}
+Chosen numbers none (some s) = ⊥
 
-abbrev pub Listing : List Float → Row → Option Listed → Type 0
-Listing numbers (Given d n) none = ⊥
-Listing numbers (Given d n) (some l) = Meant numbers d l.source × (n ≡ l.count)
-Listing numbers Barred none = Unit {0}
-Listing numbers Barred (some l) = ⊥
+-- a list that is held, and the list that the definition has
+abbrev pub Holds : List Float → Row → Listed → Type 0
+Holds numbers r l = Meant numbers r.distribution l.source × (r.count ≡ l.count)
+
+abbrev pub Listing : List Float → Option Row → Option Listed → Type 0
+Listing numbers (some r) none = ⊥
+Listing numbers (some r) (some l) = Holds numbers r l
+Listing numbers none none = Unit {0}
+Listing numbers none (some l) = ⊥
+
+-- lists one by one
+abbrev pub Rows : List Float → List Row → List Listed → Type 0
+Rows numbers [] [] = Unit {0}
+Rows numbers [] (l ∷ ls) = ⊥
+Rows numbers (r ∷ rs) [] = ⊥
+Rows numbers (r ∷ rs) (l ∷ ls) = Holds numbers r l × Rows numbers rs ls
+
+-- the front of an array holds them; without an answer one of them is refused
+pub record Filled (numbers : List Float) (fours : List (List ℕ)) (rows : List Row) : Type 0 where
+  pub lists : List Listed
+  pub is : lists_in fours numbers ≡ some lists
+  pub held : Rows numbers (take (length fours) rows) lists
+
+abbrev pub Reading : List Float → List (List ℕ) → Option (List Row) → Type 0
+Reading numbers fours none = lists_in fours numbers ≡ none
+Reading numbers fours (some rows) = Filled numbers fours rows
 
 -- a segment's doubles are those of two points around v
 pub record Surrounds (s : Segment) (b : Between) (v : ℕ) : Type 0 where
@@ -51,19 +75,22 @@ pub record Surrounds (s : Segment) (b : Between) (v : ℕ) : Type 0 where
   pub from-most : b.from.u ≤ v
   pub to-least : v ≤ b.to.u
 
--- ---- A list's times, measured and written
+-- ---- Numbers taken one after the other
 
-pub record TimesMeasured (s : Source) (count state bytes behind : ℕ) : Type 0 where
-  pub length-is : bytes ≡ length (times_bytes s count state)
-  pub state-is : behind ≡ state_after s count state
+abbrev pub Steps : (ℕ → List ℕ → ℕ → ℕ → List ℕ → Type 0) → List ℕ → List ℕ → ℕ → ℕ → List ℕ → Type 0
+Steps step [] before at next behind = (next ≡ at) × (behind ≡ before)
+Steps step (n ∷ l) before at next behind = (i : ℕ) × (b : List ℕ) × step n before at i b × Steps step l b i next behind
 
-pub record TimesWritten (s : Source) (count state at : ℕ) (before after : List ℕ) (position behind : ℕ) : Type 0 where
-  pub bytes_are : after ≡ sets before at (times_bytes s count state)
-  pub position-is : position ≡ at + length (times_bytes s count state)
-  pub state-is : behind ≡ state_after s count state
+-- it is counted, up to the largest number
+abbrev pub Measures : ℕ → List ℕ → ℕ → ℕ → List ℕ → Type 0
+Measures n before at next behind = (next ≡ min (at + length (number_bytes n)) (2 ^ 64 - 1)) × (behind ≡ before)
+
+-- it is written
+abbrev pub Writes : ℕ → List ℕ → ℕ → ℕ → List ℕ → Type 0
+Writes n before at next behind = written next behind ≡ put n (written at before)
 
 -- ---- A tape, once the stream has its state
 
-pub record Maker (lists : Option (List Listed)) (state : ℕ) (before : List ℕ) (r : Made) (behind : List ℕ) : Type 0 where
-  pub answered : r ≡ answer (from_lists lists state (length before))
+pub record Maker (lists : Option (List Listed)) (state : ℕ) (before : List ℕ) (r : Result ℕ Refusal) (behind : List ℕ) : Type 0 where
+  pub answered : Says r (from_lists lists state (length before))
   pub bytes : behind ≡ leaves (from_lists lists state (length before)) before

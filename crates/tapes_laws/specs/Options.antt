@@ -1,5 +1,6 @@
 -- One question after the other, where "no" ends them all.
-use Rattle.machine.specs.All.{Bool, true, false, Option, none, some}
+use Rattle.machine.specs.All.{Bool, true, false}
+use Rattle.std.specs.Prelude.{Option, None as none, Some as some}
 
 unfoldable pub continue : {A B : Type 0} → Option A → (A → Option B) → Option B
 continue none f = none

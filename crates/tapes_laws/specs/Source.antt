@@ -6,10 +6,7 @@ use Rattle.floats.specs.Limits.{time_parts}
 use Rattle.floats.specs.Line.{line_over, line_under, spread_over, spread_under}
 use Rattle.streams.specs.Stream.{next}
 use Rattle.tapes_laws.specs.Limits.{states_per_part}
-
-pub record Point : Type 0 where
-  pub u : ℕ
-  pub time : ℕ
+pub use Rattle.tapes_laws.specs.declared.Point.{Point}
 
 -- "a fixed time, a mean with a half-width, or a curve through points", of which it has a first one
 pub data Source : Type 0 where

@@ -1,8 +1,11 @@
 -- Document 02, item 4: the whole tape from a stream and the lists in order, and the answers of the tape maker.
-use Rattle.machine.specs.All.{ℕ, cond, List, [], map, Option, none, some, leb, length, drop, flat, number_bytes}
+use Rattle.machine.specs.All.{ℕ, cond, List, [], map, leb, length, drop, flat, number_bytes}
+use Rattle.std.specs.Prelude.{Option, None as none, Some as some}
 use Rattle.std.specs.Prelude.{Float, ◌∷◌, ◌++◌}
-use Rattle.streams.specs.{declared.Started.Started, Stream.start_of}
-use Rattle.streams.specs.declared.Started.TheVariants.{State, Refused}
+use Rattle.std.specs.Prelude.{Result, Ok, Err}
+use Rattle.constants.specs.Numbers.{refusal_number}
+use Rattle.constants.specs.declared.refusals.Refusal.{Refusal}
+use Rattle.streams.specs.{Stream.start_of}
 use Rattle.tapes_laws.specs.{Source.Source, Source.times_of, Source.state_after, Given.Listed, Given.lists_of}
 
 -- ---- Bytes
@@ -47,9 +50,9 @@ from_lists none state room = refusal 42
 from_lists (some ls) state room = fitted room (tape_bytes ls state)
 
 -- "after 41"
-unfoldable pub from_start : Started → Option (List Listed) → ℕ → Making
-from_start (Refused n) lists room = refusal n
-from_start (State state) lists room = from_lists lists state room
+unfoldable pub from_start : Result ℕ Refusal → Option (List Listed) → ℕ → Making
+from_start (Err e) lists room = refusal (refusal_number e)
+from_start (Ok state) lists room = from_lists lists state room
 
 unfoldable pub make_tape : (stream : ℕ) → List ℕ → List Float → (room : ℕ) → Making
 make_tape stream lists numbers room = from_start (start_of stream) (lists_of lists numbers) room

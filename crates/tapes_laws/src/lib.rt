@@ -3,6 +3,8 @@
 
 #![tactic(auto)]
 
+ghost use Rattle.tapes_laws.specs.Kinds.{Names};
+
 // "a fixed time, a mean with a half-width, or a curve through points": of a curve, the index of its
 // first double among those that are held beside it.
 #[derive(Clone, Copy)]
@@ -12,30 +14,38 @@ pub enum Distribution {
     Curve(u32),
 }
 
-// A distribution within the rules, or none.
-#[derive(Clone, Copy)]
-pub enum Choice {
-    Taken(Distribution),
-    Refused,
+// The kinds of distributions with their numbers.
+#[derive(Clone, Copy, PartialEq, Eq)]
+pub enum Kind {
+    Fixed = 0,
+    Spread = 1,
+    Curve = 2,
+}
+
+impl Kind {
+    // The kind of a number, if it has one.
+    pub fn of(number: u32) -> Option<Kind>
+        ensures { Names number result }
+    {
+        match number {
+            0 => Some(Kind::Fixed),
+            1 => Some(Kind::Spread),
+            2 => Some(Kind::Curve),
+            _ => None,
+        }
+    }
 }
 
 // A list within the rules: its distribution and its count of times.
 #[derive(Clone, Copy)]
-pub enum Row {
-    Given(Distribution, u32),
-    Barred,
-}
-
-// How many bytes the tape has; or the number of the refusal.
-#[derive(Clone, Copy)]
-pub enum Made {
-    Bytes(usize),
-    Refused(u32),
+pub struct Row {
+    pub distribution: Distribution,
+    pub count: u16,
 }
 
 // A point of a curve, in whole numbers.
 #[derive(Clone, Copy)]
-pub enum Point {
-    At(u64, u64),
-    Refused,
+pub struct Point {
+    pub u: u64,
+    pub time: u64,
 }

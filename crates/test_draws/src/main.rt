@@ -2,7 +2,6 @@
 #![tactic(auto)]
 
 use std::io;
-use streams::Started;
 
 const PUBLISHED_STEPS: u32 = 10_000;
 
@@ -18,6 +17,8 @@ const BEHIND_MODULUS: u32 = 2_147_483_648;
 
 const LARGEST: u32 = 4_294_967_295;
 
+const DRAWS: u32 = 3;
+
 fn print_line(rt: &impl Print, n: u32) -> io::Result<()> {
     println!(rt; "{n}")
 }
@@ -25,14 +26,17 @@ fn print_line(rt: &impl Print, n: u32) -> io::Result<()> {
 // A stream's start and its first three draws; or the refusal.
 fn print_stream(rt: &impl Print, stream: u32) -> io::Result<()> {
     match streams::start(stream) {
-        Started::Refused(n) => println!(rt; "refused {n}"),
-        Started::State(first) => {
-            print_line(rt, first)?;
-            let second = streams::step(first);
-            print_line(rt, second)?;
-            let third = streams::step(second);
-            print_line(rt, third)?;
-            print_line(rt, streams::step(third))
+        Err(refusal) => {
+            let n = refusal.number();
+            println!(rt; "refused {n}")
+        }
+        Ok(mut state) => {
+            print_line(rt, state.number())?;
+            for _ in 0..DRAWS {
+                state = state.next();
+                print_line(rt, state.number())?;
+            }
+            Ok(())
         }
     }
 }

@@ -3,45 +3,39 @@
 #![tactic(auto)]
 
 ghost use Rattle.std.specs.Prelude.{◌<◌};
-ghost use Rattle.rows_laws.specs.All.{list_count, priority_end, Room};
+ghost use Rattle.rows_laws.specs.All.{Room, priority_end};
 
-use rows::{FEL, HEADS, NUMBER, REL, ROWS, SERIAL, TIME};
+use rows::{Chain, NUMBER, ROWS, Row, SERIAL, Server, TIME};
 use std::io;
 
 // More than the layout needs.
 const LENT: usize = 16_400;
 
 // The QL of the first server.
-const QL: u32 = 0;
+fn ql() -> Chain {
+    Chain::queue(Server::of(0))
+}
 
-const QL_HEAD: u32 = HEADS + QL;
-
-// A new transaction in a row that is on no list; 1024 or more if all live.
-fn make(w: &mut [u32], number: u32, priority: u32, time: u32) -> u32
+// A new transaction in a row that is on no list; none if all live.
+fn make(w: &mut [u32], number: u32, priority: u32, time: u32) -> Option<Row>
     requires room { Room w.old }
     requires priority_lt_priority_end { priority < priority_end }
 {
-    let k = rows::make::make_row(w);
-    if k >= ROWS {
-        return k;
-    }
+    let k = rows::make::make_row(w)?;
     rows::make::newborn(w, k, number, priority, 1);
     rows::cells::write(w, SERIAL, k, number);
     rows::cells::write(w, TIME, k, time);
-    k
+    Some(k)
 }
 
 // On list p.
-fn enter(w: &mut [u32], p: u32, number: u32, priority: u32)
+fn enter(w: &mut [u32], p: Chain, number: u32, priority: u32)
     requires room { Room w.old }
-    requires p_lt_list_count { p < list_count }
     requires priority_lt_priority_end { priority < priority_end }
 {
-    let k = make(w, number, priority, 0);
-    if k >= ROWS {
-        return;
+    if let Some(k) = make(w, number, priority, 0) {
+        rows::lists::put(w, p, k);
     }
-    rows::lists::put(w, p, k);
 }
 
 // On the FEL.
@@ -49,39 +43,35 @@ fn enter_later(w: &mut [u32], number: u32, priority: u32, time: u32)
     requires room { Room w.old }
     requires priority_lt_priority_end { priority < priority_end }
 {
-    let k = make(w, number, priority, time);
-    if k >= ROWS {
-        return;
+    if let Some(k) = make(w, number, priority, time) {
+        rows::future::schedule(w, k);
     }
-    rows::future::schedule(w, k);
 }
 
-// The number of the first of list p, which ends; 0 if there is none.
-fn leave(w: &mut [u32], p: u32) -> u32
-    requires room { Room w.old }
-    requires p_lt_list_count { p < list_count }
+// Row k, which is on no list, ends; the answer is its number.
+fn end(w: &mut [u32], k: Row) -> u32
+    requires { Room w.old }
 {
-    let k = rows::lists::take_first(w, p);
-    if k >= ROWS {
-        return 0;
-    }
     let number = rows::cells::read(w, NUMBER, k);
     rows::make::free_row(w, k);
     number
+}
+
+// The number of the first of list p, which ends, if there is one.
+fn leave(w: &mut [u32], p: Chain) -> Option<u32>
+    requires { Room w.old }
+{
+    let k = rows::lists::take_first(w, p)?;
+    Some(end(w, k))
 }
 
 // Of the FEL.
-fn leave_later(w: &mut [u32]) -> u32
+fn leave_later(w: &mut [u32]) -> Option<u32>
     requires { Room w.old }
 {
-    let k = rows::lists::first(w, FEL);
-    if k >= ROWS {
-        return 0;
-    }
+    let k = rows::lists::first(w, Chain::FEL)?;
     rows::future::cancel(w, k);
-    let number = rows::cells::read(w, NUMBER, k);
-    rows::make::free_row(w, k);
-    number
+    Some(end(w, k))
 }
 
 fn show(rt: &impl Print, number: u32) -> io::Result<()> {
@@ -89,15 +79,13 @@ fn show(rt: &impl Print, number: u32) -> io::Result<()> {
 }
 
 // Writes all of list p, first to last.
-fn drain(rt: &impl Print, w: &mut [u32], p: u32) -> io::Result<()>
-    requires room { Room w.old }
-    requires p_lt_list_count { p < list_count }
+fn drain(rt: &impl Print, w: &mut [u32], p: Chain) -> io::Result<()>
+    requires { Room w.old }
 {
     for _ in 0..ROWS {
-        let number = leave(w, p);
-        if number == 0 {
+        let Some(number) = leave(w, p) else {
             return Ok(());
-        }
+        };
         show(rt, number)?;
     }
     Ok(())
@@ -108,10 +96,9 @@ fn drain_later(rt: &impl Print, w: &mut [u32]) -> io::Result<()>
     requires { Room w.old }
 {
     for _ in 0..ROWS {
-        let number = leave_later(w);
-        if number == 0 {
+        let Some(number) = leave_later(w) else {
             return Ok(());
-        }
+        };
         show(rt, number)?;
     }
     Ok(())
@@ -121,12 +108,12 @@ fn drain_later(rt: &impl Print, w: &mut [u32]) -> io::Result<()>
 fn ready(rt: &impl Print, w: &mut [u32]) -> io::Result<()>
     requires { Room w.old }
 {
-    enter(w, REL, 1, 0);
-    enter(w, REL, 2, 5);
-    enter(w, REL, 3, 0);
-    enter(w, REL, 4, 5);
-    enter(w, REL, 5, 9);
-    drain(rt, w, REL)
+    enter(w, Chain::REL, 1, 0);
+    enter(w, Chain::REL, 2, 5);
+    enter(w, Chain::REL, 3, 0);
+    enter(w, Chain::REL, 4, 5);
+    enter(w, Chain::REL, 5, 9);
+    drain(rt, w, Chain::REL)
 }
 
 // The FEL by time first; those of time 10 arrive on REL: 8 7, then 9 6 are left.
@@ -144,29 +131,28 @@ fn future(w: &mut [u32])
 fn queue(rt: &impl Print, w: &mut [u32]) -> io::Result<()>
     requires { Room w.old }
 {
-    enter(w, QL, 1, 0);
-    enter(w, QL, 2, 1);
-    enter(w, QL, 3, 0);
-    rows::wake::wake_first(w, QL);
-    drain(rt, w, REL)?;
-    drain(rt, w, QL)
+    enter(w, ql(), 1, 0);
+    enter(w, ql(), 2, 1);
+    enter(w, ql(), 3, 0);
+    rows::wake::wake_first(w, ql());
+    drain(rt, w, Chain::REL)?;
+    drain(rt, w, ql())
 }
 
 // The second of a queue leaves, wherever it stands: 1 3 are left.
 fn middle(rt: &impl Print, w: &mut [u32]) -> io::Result<()>
     requires { Room w.old }
 {
-    enter(w, QL, 1, 0);
-    enter(w, QL, 2, 0);
-    enter(w, QL, 3, 0);
-    let second = rows::wake::after(w, QL_HEAD);
-    let k = rows::cells::load(w, second);
-    if k >= ROWS {
+    enter(w, ql(), 1, 0);
+    enter(w, ql(), 2, 0);
+    enter(w, ql(), 3, 0);
+    let second = rows::wake::after(w, ql().head());
+    let Some(k) = rows::cells::row_at(w, second) else {
         return Ok(());
-    }
-    rows::lists::remove(w, QL, k);
+    };
+    rows::lists::remove(w, ql(), k.number());
     rows::make::free_row(w, k);
-    drain(rt, w, QL)
+    drain(rt, w, ql())
 }
 
 fn exercise(rt: &impl Print, w: &mut [u32]) -> io::Result<()>
@@ -175,7 +161,7 @@ fn exercise(rt: &impl Print, w: &mut [u32]) -> io::Result<()>
     rows::make::initialise(w);
     ready(rt, w)?;
     future(w);
-    drain(rt, w, REL)?;
+    drain(rt, w, Chain::REL)?;
     drain_later(rt, w)?;
     queue(rt, w)?;
     middle(rt, w)

@@ -3,10 +3,9 @@
 
 ghost use Rattle.std.specs.Prelude.{◌<◌};
 
-use codec::Read;
-use constants::Model;
+use constants::{Model, Refusal};
 use std::io;
-use trace::{Reading, Record, Written};
+use trace::Record;
 
 const RECORDS: u64 = 1000;
 
@@ -55,10 +54,10 @@ fn print_read(rt: &impl Print, s: &[u8], most: u64) -> io::Result<()> {
     println!(rt)
 }
 
-fn print_answer(rt: &impl Print, answer: Read) -> io::Result<()> {
+fn print_answer(rt: &impl Print, answer: Option<(u64, usize)>) -> io::Result<()> {
     match answer {
-        Read::Number(v, _) => print!(rt; "{v}"),
-        Read::Refused => print!(rt; "refused"),
+        Some((v, _)) => print!(rt; "{v}"),
+        None => print!(rt; "refused"),
     }
 }
 
@@ -69,27 +68,44 @@ fn print_record(rt: &impl Print, s: &[u8]) -> io::Result<()> {
     println!(rt)
 }
 
-fn print_reading(rt: &impl Print, answer: Reading) -> io::Result<()> {
+fn print_reading(
+    rt: &impl Print,
+    answer: Result<Option<(Record, usize)>, Refusal>,
+) -> io::Result<()> {
     match answer {
-        Reading::Taken(r, _) => {
+        Ok(Some((r, _))) => {
             let clock = r.clock;
             print!(rt; "clock {clock}")
         }
-        Reading::Refused(n) => print!(rt; "refused {n}"),
-        Reading::NoMore => print!(rt; "no more"),
+        Ok(None) => print!(rt; "no more"),
+        Err(refusal) => print_refusal(rt, refusal),
     }
+}
+
+fn print_refusal(rt: &impl Print, refusal: Refusal) -> io::Result<()> {
+    let n = refusal.number();
+    print!(rt; "refused {n}")
 }
 
 // What the writer answers to a record at this clock, with the largest of all else and room for it.
 fn print_largest(rt: &impl Print, clock: u64) -> io::Result<()> {
     print!(rt; "{clock}")?;
     let mut bytes = [0u8; Model::RECORD_ROOM];
-    match trace::write_record(&mut bytes, clock, Model::MAX_TRANSACTION, BLOCKS, 1) {
-        Written::Bytes(n) => {
+    let largest = Record {
+        clock,
+        transaction: Model::MAX_TRANSACTION,
+        block: BLOCKS,
+        outcome: 1,
+    };
+    match trace::write_record(&mut bytes, largest) {
+        Ok(n) => {
             print!(rt; " in {n} bytes")?;
             print_bytes(rt, &bytes)?;
         }
-        Written::Refused(n) => print!(rt; " refused {n}")?,
+        Err(refusal) => {
+            print!(rt; " ")?;
+            print_refusal(rt, refusal)?;
+        }
     }
     println!(rt)
 }
@@ -113,41 +129,18 @@ fn put(trace: &mut [u8], used: usize, i: u64) -> usize
     if trace.len() < used {
         return used;
     }
-    let r = record(i);
-    let written = trace::write_record(
-        &mut trace[used..],
-        r.clock,
-        r.transaction,
-        r.block,
-        r.outcome,
-    );
-    match written {
-        Written::Bytes(n) => used + n,
-        Written::Refused(_) => used,
+    match trace::write_record(&mut trace[used..], record(i)) {
+        Ok(n) => used + n,
+        Err(_) => used,
     }
 }
 
-// The position after the i-th record, if it stands at `at`; else 0.
-fn take(trace: &[u8], at: usize, i: u64) -> usize
+// The position after the i-th record, if it stands at `at`.
+fn take(trace: &[u8], at: usize, i: u64) -> Option<usize>
     requires { i < RECORDS }
 {
-    let Reading::Taken(r, next) = trace::read_record(trace, at) else {
-        return 0;
-    };
-    let wanted = record(i);
-    if r.clock != wanted.clock {
-        return 0;
-    }
-    if r.transaction != wanted.transaction {
-        return 0;
-    }
-    if r.block != wanted.block {
-        return 0;
-    }
-    if r.outcome != wanted.outcome {
-        return 0;
-    }
-    next
+    let (r, next) = trace::read_record(trace, at).ok().flatten()?;
+    (r == record(i)).then_some(next)
 }
 
 fn write_all(trace: &mut [u8]) -> usize {
@@ -158,22 +151,19 @@ fn write_all(trace: &mut [u8]) -> usize {
     used
 }
 
-// The position after the thousand records, if each reads back as it was written; else 0.
-fn read_all(trace: &[u8]) -> usize {
+// The position after the thousand records, if each reads back as it was written.
+fn read_all(trace: &[u8]) -> Option<usize> {
     let mut at = 0;
     for i in 0..RECORDS {
-        at = take(trace, at, i);
-        if at == 0 {
-            return 0;
-        }
+        at = take(trace, at, i)?;
     }
-    at
+    Some(at)
 }
 
 // Whether the reader has no more at a position.
 fn print_end(rt: &impl Print, trace: &[u8], at: usize) -> io::Result<()> {
     match trace::read_record(trace, at) {
-        Reading::NoMore => println!(rt; "no more"),
+        Ok(None) => println!(rt; "no more"),
         _ => println!(rt; "more"),
     }
 }
@@ -217,7 +207,7 @@ fn print_limits(rt: &impl Print) -> io::Result<()> {
 }
 
 fn print_trace(rt: &impl Print, trace: &[u8]) -> io::Result<()> {
-    let at = read_all(trace);
+    let at = read_all(trace).unwrap_or(0);
     print_count(rt, at, " bytes read back")?;
     print_end(rt, trace, at)?;
     let low = trace::count_low(trace);

@@ -5,7 +5,7 @@
 #![tactic(auto)]
 
 ghost use Rattle.std.specs.Io.{ReadsAtMost};
-ghost use Rattle.std.specs.Prelude.{length, ◌<◌, ◌≤◌};
+ghost use Rattle.std.specs.Prelude.{length, ◌<◌, ◌≤◌, IfSome};
 
 use std::io;
 use std::io::Read;
@@ -19,6 +19,7 @@ const WORK_NUMBERS: usize = 16_384;
 const REPORT_BYTES: usize = 10_240;
 
 // Reads until the buffer is full or the input ends; answers how many bytes.
+// kept: a `while`, since a read gives as many bytes as it likes.
 fn read_full(input: &mut impl Read, buffer: &mut [u8]) -> io::Result<usize>
     ensures { ReadsAtMost result buffer.new }
 {
@@ -33,20 +34,11 @@ fn read_full(input: &mut impl Read, buffer: &mut [u8]) -> io::Result<usize>
     Ok(done)
 }
 
-// Where a mark stands, at a position or behind it; the length where it does not.
-fn find(s: &[u8], at: usize, mark: u8) -> usize
-    requires { at ≤ length s.now }
-    ensures lower_bound { at ≤ result }
-    ensures upper_bound { result ≤ length s.now }
+// Where a mark stands first.
+fn find(s: &[u8], mark: u8) -> Option<usize>
+    ensures { IfSome result (λ i. i < length s.now) }
 {
-    let mut i = at;
-    while i < s.len() {
-        if s[i] == mark {
-            return i;
-        }
-        i += 1;
-    }
-    i
+    s.iter().position(|b| *b == mark)
 }
 
 fn digit(c: u8) -> u8
@@ -69,15 +61,11 @@ fn byte(high: u8, low: u8) -> u8 {
 fn bytes_of(text: &[u8], out: &mut [u8]) -> usize
     ensures { result ≤ length out.new }
 {
-    let mut n = 0;
-    while n < text.len() / 2 {
-        if n >= out.len() {
-            return n;
-        }
-        out[n] = byte(text[2 * n], text[2 * n + 1]);
-        n += 1;
+    let (pairs, _) = text.as_chunks::<2>();
+    for (cell, pair) in out.iter_mut().zip(pairs) {
+        *cell = byte(pair[0], pair[1]);
     }
-    n
+    pairs.len().min(out.len())
 }
 
 fn answer(rt: &impl Print, model: &[u8], tape: &[u8]) -> io::Result<()> {
@@ -97,31 +85,21 @@ fn show(rt: &impl Print, name: &[u8], model_text: &[u8], tape_text: &[u8]) -> io
 }
 
 fn show_line(rt: &impl Print, line: &[u8]) -> io::Result<()> {
-    let colon = find(line, 0, b':');
-    if colon >= line.len() {
+    let Some(colon) = find(line, b':') else {
         return Ok(());
-    }
-    let slash = find(line, colon + 1, b'/');
-    if slash >= line.len() {
+    };
+    let texts = &line[colon + 1..];
+    let Some(slash) = find(texts, b'/') else {
         return Ok(());
-    }
-    show(
-        rt,
-        &line[..colon],
-        &line[colon + 1..slash],
-        &line[slash + 1..],
-    )
+    };
+    show(rt, &line[..colon], &texts[..slash], &texts[slash + 1..])
 }
 
 fn show_all(rt: &impl Print, cases: &[u8]) -> io::Result<()> {
-    let mut at = 0;
-    while at < cases.len() {
-        let end = find(cases, at, b'\n');
-        if end >= cases.len() {
-            return Ok(());
-        }
-        show_line(rt, &cases[at..end])?;
-        at = end + 1;
+    let mut left = cases;
+    while let Some(end) = find(left, b'\n') {
+        show_line(rt, &left[..end])?;
+        left = &left[end + 1..];
     }
     Ok(())
 }

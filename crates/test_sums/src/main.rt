@@ -1,6 +1,7 @@
 // Evaluates values that a model could hold, and writes what each is worth: wrapping, brackets, comparisons, mentions.
 #![tactic(auto)]
 
+use evaluation::View;
 use layout::{CAPACITIES, CONTENT, ENTRIES, IN_USE, TABLES, TALLY, VALUE_WIDTH, VALUES};
 use std::io;
 
@@ -9,22 +10,13 @@ const MOST: u32 = 2_147_483_647;
 
 const MINUS_NINE: u32 = 4_294_967_287;
 
-// From here on bits stand for a negative number; how many numbers of 32 bits there are.
-const SIGN: u64 = 2_147_483_648;
-
-const WORDS: u64 = 4_294_967_296;
-
 // Puts numbers into the tables from a position on, as far as there is room.
 fn put(tables: &mut [u32], at: usize, numbers: &[u32]) {
     if tables.len() <= at {
         return;
     }
-    for (i, number) in numbers.iter().enumerate() {
-        let place = at + i;
-        if tables.len() <= place {
-            return;
-        }
-        tables[place] = *number;
+    for (cell, number) in tables[at..].iter_mut().zip(numbers) {
+        *cell = *number;
     }
 }
 
@@ -63,14 +55,13 @@ fn put_others(tables: &mut [u32]) {
     put_value(tables, 7, &below);
 }
 
-// A number and a line end.
-fn show(rt: &impl Print, z: i32) -> io::Result<()> {
-    let n = evaluation::bits(z) as u64;
-    if n < SIGN {
-        println!(rt; "{n}")
-    } else {
-        let below = WORDS - n;
-        println!(rt; "-{below}")
+// All eight values may be named; the clock is 7.
+fn seen<'a>(tables: &'a [u32; TABLES], tally: &'a [u64; TALLY]) -> View<'a> {
+    View {
+        tables,
+        tally,
+        values: 8,
+        clock: 7,
     }
 }
 
@@ -84,7 +75,8 @@ fn show_value(
     let p = [5, 0, 0, MINUS_NINE];
     let named = [9, k];
     put(tables, 0, &named);
-    show(rt, evaluation::term_at(tables, tally, 8, 7, &p, 0))
+    let worth = seen(tables, tally).term_at(&p, 0);
+    println!(rt; "{worth}")
 }
 
 // Value 1 < 0, as a WAITIF has it: at position 0.
@@ -96,11 +88,8 @@ fn show_comparison(
     let p = [5, 0, 0, 0];
     let named = [9, 0, 3, 0, 0];
     put(tables, 0, &named);
-    if evaluation::compare_at(tables, tally, 8, 7, &p, 0) {
-        show(rt, 1)
-    } else {
-        show(rt, 0)
-    }
+    let holds = u8::from(seen(tables, tally).compare_at(&p, 0));
+    println!(rt; "{holds}")
 }
 
 fn show_all(rt: &impl Print, tables: &mut [u32; TABLES], tally: &[u64; TALLY]) -> io::Result<()> {

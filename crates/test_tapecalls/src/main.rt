@@ -2,7 +2,6 @@
 #![tactic(auto)]
 
 use std::io;
-use tapes_laws::Made;
 
 fn print_byte(rt: &impl Print, b: u8) -> io::Result<()> {
     print!(rt; " {b}")
@@ -17,10 +16,12 @@ fn print_bytes(rt: &impl Print, tape: &[u8; 12]) -> io::Result<()> {
 
 fn print_call(rt: &impl Print, stream: u32, lists: &[u32], numbers: &[f64]) -> io::Result<()> {
     let mut tape = [7u8; 12];
-    let made = tapes::make(stream, lists, numbers, &mut tape);
-    match made {
-        Made::Bytes(n) => print!(rt; "made {n}")?,
-        Made::Refused(n) => print!(rt; "refused {n}")?,
+    match tapes::make(stream, lists, numbers, &mut tape) {
+        Ok(n) => print!(rt; "made {n}")?,
+        Err(refusal) => {
+            let n = refusal.number();
+            print!(rt; "refused {n}")?;
+        }
     }
     print_bytes(rt, &tape)
 }

@@ -9,7 +9,6 @@
 ghost use Rattle.std.specs.Prelude.{◌<◌};
 ghost use Rattle.std.specs.Io.{ReadsAtMost};
 
-use codec::Read;
 use constants::Model;
 use std::io;
 
@@ -122,22 +121,22 @@ fn no_case() -> Case {
 }
 
 fn read_case(cases: &[u8], at: usize) -> Case {
-    let Read::Number(model, p1) = codec::read_number(cases, at, Model::MAX_NUMBER) else {
+    let Some((model, p1)) = codec::read_number(cases, at, Model::MAX_NUMBER) else {
         return no_case();
     };
-    let Read::Number(tape, p2) = codec::read_number(cases, p1, Model::MAX_NUMBER) else {
+    let Some((tape, p2)) = codec::read_number(cases, p1, Model::MAX_NUMBER) else {
         return no_case();
     };
-    let Read::Number(budget, p3) = codec::read_number(cases, p2, Model::MAX_NUMBER) else {
+    let Some((budget, p3)) = codec::read_number(cases, p2, Model::MAX_NUMBER) else {
         return no_case();
     };
-    let Read::Number(work, p4) = codec::read_number(cases, p3, Model::MAX_NUMBER) else {
+    let Some((work, p4)) = codec::read_number(cases, p3, Model::MAX_NUMBER) else {
         return no_case();
     };
-    let Read::Number(trace, p5) = codec::read_number(cases, p4, Model::MAX_NUMBER) else {
+    let Some((trace, p5)) = codec::read_number(cases, p4, Model::MAX_NUMBER) else {
         return no_case();
     };
-    let Read::Number(report, p6) = codec::read_number(cases, p5, Model::MAX_NUMBER) else {
+    let Some((report, p6)) = codec::read_number(cases, p5, Model::MAX_NUMBER) else {
         return no_case();
     };
     Case {

@@ -1,47 +1,34 @@
 -- Laws of words: what a word holds, its marks for every word, and marks of neighbouring parts added.
-use Rattle.machine.specs.All.{ℕ, zero, suc, ◌+◌, ◌*◌, ◌/◌, ◌%◌, ◌^◌, ◌<◌, add_comm, zero-add, suc-add, mul_comm, mul_assoc, pow-suc, mod-eq_of_lt, mul-add-mod_self_left, add-mul-mod_self_right, add-mul-div_right, arith, Bool, true, false, cond, List, ◌∷◌, ◌++◌, ◌≡◌, refl, sym, ap, ◌∙◌, subst, ltb, length, drop, get_or, take-add, drop-drop, drop-cons, ltb-true, ltb-false, count_low, take}
+use Rattle.machine.specs.All.{ℕ, zero, suc, ◌+◌, ◌*◌, ◌/◌, ◌%◌, ◌^◌, ◌<◌, mod-eq_of_lt, pow-suc, mul-add-mod_self_left, arith, Bool, true, false, cond, List, [], ◌∷◌, ◌++◌, ◌≡◌, refl, sym, ap, ap₂, ◌∙◌, ltb, length, get_or, ltb-true, ltb-false, count_low, take, append-nil}
 use native.Mathlib.Nat.{add-mod}
-use lib.Arith.{digits_lt}
+use Rattle.std.proofs.Math.Nat.{div-div-eq-div-mul}
 use lib.Bits.{bit_and, and_block, and_mask, and_le_r, and_zero_r}
-use lib.Pow.{pow-add}
+use mir.Syntax.{w64}
+use Rattle.std.specs.{List.concat, Int.byte_at, Int.bytes_low_first, Int.from_le_bytes}
+use Rattle.std.proofs.lemmas.{Nat.le_bytes_8, List.take_more, List.Folds.concat-append}
 use Rattle.trace.proofs.Counting.{count_low-append}
-use Rattle.trace.specs.{part, bytes_of, Holds, ones, Marks}
+use Rattle.trace.specs.{bytes_of, ones, Marks}
 
--- ---- Parts of a list
+-- ---- The bytes of a word
 
-pub part_join : (s : List ℕ) (at n m : ℕ) → part s at (n + m) ≡ part s at n ++ part s (at + n) m
-unfolding part
-part_join s at n m = take-add n m (drop at s) ∙ ap (λ (l : List ℕ). take n (drop at s) ++ take m l) (drop-drop n at s)
-
--- ---- What a word holds
-
-bytes-join : (n m : ℕ) {lo : ℕ} (hi : ℕ) → lo < 256 ^ n → bytes_of (n + m) (lo + hi * 256 ^ n) ≡ bytes_of n lo ++ bytes_of m hi
+-- from byte i upward
+bytes-from : (k i w : ℕ) → bytes_of k (w / 256 ^ i) ≡ bytes_low_first i k w
 unfolding bytes_of
-bytes-join zero m {lo} hi h =
-    let word : lo + hi * 256 ^ 0 ≡ hi = omega arith in
-    cc (word, zero-add m)
-bytes-join (suc n) m {lo} hi h =
-    let upper = ap (λ (x : ℕ). hi * x) (pow-suc 256 n) ∙ sym (mul_assoc hi (256 ^ n) 256) in
-    ap (λ (x : ℕ). bytes_of x (lo + hi * 256 ^ suc n)) (suc-add n m)
-    ∙ ap (λ (x : ℕ). bytes_of (suc (n + m)) (lo + x)) upper
-    ∙ ap (λ (x : ℕ). x ∷ bytes_of (n + m) ((lo + hi * 256 ^ n * 256) / 256)) (add-mul-mod_self_right lo _ 256)
-    ∙ ap (λ (x : ℕ). lo % 256 ∷ bytes_of (n + m) x) (add-mul-div_right lo _ (omega arith))
-    ∙ ap (λ (l : List ℕ). lo % 256 ∷ l) (bytes-join n m hi (omega arith))
-
-holds-join : {n m lo hi : ℕ} {l k : List ℕ} → Holds n l lo → Holds m k hi → Holds (n + m) (l ++ k) (lo + hi * 256 ^ n)
-holds-join {n} {m} {lo} {hi} a b = record { bytes = bytes-join n m hi a.below ∙ both a.bytes b.bytes; below = bound }
+bytes-from zero i w = refl
+bytes-from (suc k) i w =
+    let next : w / 256 ^ i / 256 ≡ w / 256 ^ suc i =
+    div-div-eq-div-mul w (256 ^ i) 256 ∙ ap (λ (x : ℕ). w / x) (sym (pow-suc 256 i)) in
+    ap₂ (λ (b : ℕ) (l : List ℕ). b ∷ l) (here i) (ap (bytes_of k) next ∙ bytes-from k (suc i) w)
   where
-    both : {x y z w : List ℕ} → x ≡ y → z ≡ w → x ++ z ≡ y ++ w
-    both {x} {y} {z} {w} e f = cc
+    here : (i : ℕ) → w / 256 ^ i % 256 ≡ byte_at i w
+    here zero = omega arith
+    here (suc i) = refl
 
-    bound : lo + hi * 256 ^ n < 256 ^ (n + m)
-    bound =
-        rw (pow-add 256 n m, ← mul_comm (256 ^ m) (256 ^ n))
-        (subst (λ (x : ℕ). x < 256 ^ m * 256 ^ n) (add_comm (hi * 256 ^ n) lo) (digits_lt b.below a.below))
-
-pub holds_byte : (s : List ℕ) (at : ℕ) {b : ℕ} → at < length s → b ≡ get_or s at 0 → b < 256 → Holds 1 (part s at 1) b
-unfolding bytes_of part
-holds_byte s at h e small = record { bytes = rw (drop-cons s at 0 h, ← e, mod-eq_of_lt small); below = small }
+-- the bytes of which a word is made are its own
+pub bytes_made : (l : List ℕ) (w : ℕ) → length l ≡ 8 → ((i : ℕ) → get_or l i 0 < 256) → w ≡ from_le_bytes w64 l → bytes_of 8 w ≡ l
+bytes_made l w n small e =
+    let one : w / 256 ^ 0 ≡ w = omega arith in
+    rw one at (bytes-from 8 0 w) ∙ le_bytes_8 l w n small e
 
 -- ---- The marks of a word
 
@@ -99,13 +86,14 @@ marks-join {n} {m} {r} {q} {l} {k} a b few =
     let sum : (r + q) % 255 ≡ r % 255 + q % 255 = add-mod r q 255 ∙ mod-eq_of_lt (omega (arith, a.left, b.left)) in
     record { left = omega (arith, a.left, b.left, count_low-append l k); small = omega (arith, a.small, b.small) }
 
--- ---- Neighbouring parts
+-- one word more
+pub marks_more : (l : List (List ℕ)) (i : ℕ) {r q : ℕ} → i < length l → 8 * i + 8 < 255 → Marks (8 * i) (concat (take i l)) r →
+    Marks 8 (get_or l i []) q → Marks (8 * (i + 1)) (concat (take (i + 1) l)) (r + q)
+marks_more l i {r} {q} h few a b =
+    let next : 8 * (i + 1) ≡ 8 * i + 8 = omega arith in
+    let one : concat (get_or l i [] ∷ []) ≡ get_or l i [] = append-nil (get_or l i []) in
+    rw (take_more l i [] h, concat-append, one, next) (marks-join a b few)
 
-module _ (s : List ℕ) (at n m : ℕ) {a b : ℕ} where
-  -- two parts side by side, as one word of their sizes
-  pub holds_beside : Holds n (part s at n) a → Holds m (part s (at + n) m) b → Holds (n + m) (part s at (n + m)) (a + b * 256 ^ n)
-  holds_beside h k = rw (part_join s at n m) (holds-join h k)
-
-  -- and their marks, which no sum below 255 confuses
-  pub marks_beside : n + m < 255 → Marks n (part s at n) a → Marks m (part s (at + n) m) b → Marks (n + m) (part s at (n + m)) (a + b)
-  marks_beside few h k = rw (part_join s at n m) (marks-join h k few)
+pub no_marks : Marks 0 [] 0
+unfolding count_low
+no_marks = record { left = refl; small = omega arith }

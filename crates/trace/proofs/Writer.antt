@@ -1,10 +1,11 @@
 -- The writer, pure: the length of a record, the ranges as facts, its four numbers stored one after the other, and the rest
 -- that `write_record` leaves.
-use Rattle.machine.specs.All.{clash, ℕ, ◌+◌, ◌≤◌, ◌<◌, zero-add, arith, true, false, List, [], ◌∷◌, ◌++◌, append_assoc, ◌≡◌, refl, ap, ◌∙◌, lit≤, length, take, length-append, sets, length-sets, sets-eq, take-append_seam, le-leb, lt-leb, leb-true, in_force, five_groups, max_clock, max_transaction, max_blocks, record_room, number_bytes, Record, record_bytes, trace_bytes_lem, in_ranges, written, rejected, write_record, ◌&&◌, sym, ap₂, leb, drop}
+use Rattle.machine.specs.All.{ℕ, ◌+◌, ◌≤◌, ◌<◌, zero-add, arith, true, false, List, [], ◌∷◌, ◌++◌, append_assoc, ◌≡◌, refl, ap, ◌∙◌, lit≤, length, take, length-append, sets, length-sets, sets-eq, take-append_seam, le-leb, lt-leb, leb-true, in_force, five_groups, max_clock, max_transaction, max_blocks, record_room, number_bytes, Record, record_bytes, trace_bytes_lem, in_ranges, written, rejected, write_record, ◌&&◌, sym, ap₂, leb, drop}
 use Rattle.machine.proofs.Runs.RecordRoom.{record-room as room}
 use Rattle.codec.proofs.{Fields.both_true, Fields.between, Numbers.number_bytes-positive, Stores.sets-append, Writing.put-room}
 use Rattle.codec.specs.Writing.{Written as Placed, written as written-to, put}
-use Rattle.trace.specs.declared.Written.TheVariants.{Bytes, Refused}
+use Rattle.std.specs.Prelude.{Result, Ok}
+use Rattle.constants.specs.declared.refusals.Refusal.{Refusal}
 use Rattle.trace.specs.{after}
 
 -- ---- Length
@@ -115,9 +116,9 @@ pub written_behind : (r : Record) (l m₁ m₂ m₃ m₄ : List ℕ) (p₁ p₂ 
     → m₄ ≡ sets l 0 (record_bytes r)
 unfolding record_bytes
 written_behind r l m₁ m₂ m₃ m₄ p₁ p₂ p₃ p₄ room e₁ e₂ e₃ e₄ =
-    let a = number_bytes _ in
-    let b = number_bytes _ in
-    let d = number_bytes _ in
+    let a : List ℕ = number_bytes r.clock in
+    let b : List ℕ = number_bytes r.transaction in
+    let d : List ℕ = number_bytes r.block in
     let all = record_bytes-length r in
     let (at₁, one) = put-there 0 _ p₁ l m₁ (omega arith) e₁ in
     let long₁ = ap length one ∙ length-sets l 0 a in
@@ -161,12 +162,8 @@ module _ (r : Record) (l : List ℕ) where
   pub front-written : length (record_bytes r) ≤ length l → take (length (record_bytes r)) (sets l 0 (record_bytes r)) ≡ record_bytes r
   front-written h = rw (sets-eq (record_bytes r) l 0 (omega arith)) (take-append_seam (record_bytes r) _)
 
--- what a caller learns of the count
-pub refused-bytes : {k n : ℕ} → Refused k ≡ Bytes n → ⊥
-refused-bytes {k} {n} e = clash (cc)
-
 -- the length that is answered, by any name
-pub bytes_count : {k n m most : ℕ} → Bytes k ≡ Bytes n → k ≡ m → m ≤ most → (n ≡ m) × (n ≤ most)
-bytes_count {k} {n} {m} {most} e len room =
+pub bytes_count : {k n m most : ℕ} → ◌≡◌ {A = Result ℕ Refusal} (Ok k) (Ok n) → k ≡ m → m ≤ most → (n ≡ m) × (n ≤ most)
+bytes_count {k} {n} {m} {most} e len fits =
     let same : n ≡ k = cc in
     omega arith

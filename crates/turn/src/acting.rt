@@ -1,7 +1,6 @@
 // The parts of a turn in their order.
-ghost use Rattle.std.specs.Prelude.{◌≡◌, ◌+◌, ◌<◌, ◌≤◌};
-ghost use Rattle.machine.specs.All.{ℕ, List, max_blocks, max_facilities};
-ghost use Rattle.rows_laws.specs.All.{Room, row_count, next_field, read};
+ghost use Rattle.std.specs.Prelude.{◌≡◌, ◌≤◌};
+ghost use Rattle.machine.specs.All.{max_blocks, max_facilities};
 ghost use Rattle.state.specs.All.{rows_of};
 ghost use Rattle.turn_laws.specs.Turn.{traced, act, act_moving, clock_asks, next_of, asks, scheme_if, after_taking, turn};
 
@@ -12,9 +11,8 @@ use constants::Model;
 use layout::{ASKED, BLOCK_WIDTH, CLOCK_ASKED, TABLES, TALLY};
 use rows::cells::read;
 use rows::lists::first;
-use rows::{NEXT, NUMBER, ROWS, WSL};
-use saturating::less32;
-use state::Scalars;
+use rows::{Chain, NEXT, NUMBER, Work};
+use state::{Moving, Scalars};
 use values_queues::ws;
 
 // The moving transaction, with this number and next block, executes that block, and its record is noted.
@@ -23,23 +21,21 @@ fn act(
     values: usize,
     facilities: usize,
     tape: &[u8],
-    work: &mut [u32],
+    work: &mut Work,
     tally: &mut [u64; TALLY],
     trace: &mut [u8],
-    x: Scalars,
+    x: Moving,
     number: u32,
     block: u32,
 ) -> Scalars
     requires facilities_le_max_facilities { facilities ≤ max_facilities }
-    requires room { Room work.old }
-    requires moving_lt_row_count { x.moving < row_count }
     ensures { traced (rows_of result work.new tally.new) trace.new
         ≡ act tables.now values facilities tape.now work.old tally.old
         trace.old x number block }
 {
-    let b = less32(block, 1) as usize;
+    let b = block.saturating_sub(1) as usize;
     if b >= Model::MAX_BLOCKS {
-        return x;
+        return x.scalars();
     }
     let y = execute(
         tables,
@@ -60,25 +56,25 @@ fn act_moving(
     values: usize,
     facilities: usize,
     tape: &[u8],
-    work: &mut [u32],
+    work: &mut Work,
     tally: &mut [u64; TALLY],
     trace: &mut [u8],
     x: Scalars,
 ) -> Scalars
     requires facilities_le_max_facilities { facilities ≤ max_facilities }
-    requires room { Room work.old }
     ensures { traced (rows_of result work.new tally.new) trace.new
         ≡ act_moving tables.now values facilities tape.now work.old tally.old
         trace.old x }
 {
-    let k = x.moving;
-    if k >= ROWS {
-        return x;
-    }
+    let idle = x;
+    let Some(m) = Moving::of(x) else {
+        return idle;
+    };
+    let k = m.row();
     let number = read(work, NUMBER, k);
     let block = read(work, NEXT, k);
     act(
-        tables, values, facilities, tape, work, tally, trace, x, number, block,
+        tables, values, facilities, tape, work, tally, trace, m, number, block,
     )
 }
 
@@ -86,21 +82,17 @@ fn act_moving(
 fn clock_asked(tables: &[u32; TABLES], before: u64, after: u64) -> bool
     ensures { result ≡ clock_asks tables.now before «after» }
 {
-    if before == after {
-        return false;
-    }
-    layout::number(tables, CLOCK_ASKED) != 0
+    before != after && layout::number(tables, CLOCK_ASKED) != 0
 }
 
-// The block that row k stands before, 0 where k is no row.
-fn next_of(work: &[u32], k: u32) -> u32
-    requires { Room work.now }
-    ensures { result ≡ next_of work.now k }
+// The block that who moves stands before, 0 where nobody does.
+fn next_of(work: &Work, x: &Scalars) -> u32
+    ensures { result ≡ next_of work.now x.now.moving }
 {
-    if k >= ROWS {
-        return 0;
+    match x.moving.row() {
+        Some(k) => read(work, NEXT, k),
+        None => 0,
     }
-    read(work, NEXT, k)
 }
 
 // Are those that wait on comparisons asked again after a turn, of the clock before and after it and the block of whoever moved? Not if
@@ -111,7 +103,7 @@ fn asked(tables: &[u32; TABLES], before: u64, after: u64, block: u32) -> bool
     if clock_asked(tables, before, after) {
         return true;
     }
-    let b = less32(block, 1) as usize;
+    let b = block.saturating_sub(1) as usize;
     if b >= Model::MAX_BLOCKS {
         return true;
     }
@@ -123,19 +115,17 @@ fn scheme(
     tables: &[u32; TABLES],
     blocks: usize,
     values: usize,
-    work: &mut [u32],
+    work: &mut Work,
     tally: &[u64; TALLY],
-    x: Scalars,
+    x: &Scalars,
     asks: bool,
 )
     requires blocks_le_max_blocks { blocks ≤ max_blocks }
-    requires room { Room work.old }
-    ensures { work.new ≡ scheme_if asks tables.now blocks values tally.now x work.old }
+    ensures { work.new ≡ scheme_if asks tables.now blocks values tally.now x.now work.old }
 {
-    if !asks {
-        return;
+    if asks {
+        ws(tables, blocks, values, work, tally, *x);
     }
-    ws(tables, blocks, values, work, tally, x);
 }
 
 // The same after a turn; where nobody is on the WSL, it does nothing, and whether they are asked is not looked at.
@@ -143,20 +133,19 @@ fn scheme_after(
     tables: &[u32; TABLES],
     blocks: usize,
     values: usize,
-    work: &mut [u32],
+    work: &mut Work,
     tally: &[u64; TALLY],
-    x: Scalars,
+    x: &Scalars,
     before: u64,
     block: u32,
 )
     requires blocks_le_max_blocks { blocks ≤ max_blocks }
-    requires room { Room work.old }
-    ensures { work.new ≡ scheme_if (asks tables.now before x.clock block) tables.now blocks values
-        tally.now x work.old }
+    ensures { work.new ≡ scheme_if (asks tables.now before x.now.clock block) tables.now blocks values
+        tally.now x.now work.old }
 {
-    if first(work, WSL) >= ROWS {
+    let Some(_) = first(work, Chain::WSL) else {
         return;
-    }
+    };
     let asks = asked(tables, before, x.clock, block);
     scheme(tables, blocks, values, work, tally, x, asks);
 }
@@ -166,7 +155,7 @@ fn after_taking(
     model: Model,
     tables: &[u32; TABLES],
     tape: &[u8],
-    work: &mut [u32],
+    work: &mut Work,
     tally: &mut [u64; TALLY],
     trace: &mut [u8],
     before: u64,
@@ -174,12 +163,11 @@ fn after_taking(
 ) -> Scalars
     requires facilities_le_max_facilities { model.facilities ≤ max_facilities }
     requires blocks_le_max_blocks { model.blocks ≤ max_blocks }
-    requires room { Room work.old }
     ensures { traced (rows_of result work.new tally.new) trace.new
         ≡ after_taking tables.now model.blocks model.values model.facilities tape.now
         trace.old before (rows_of x work.old tally.old) }
 {
-    let block = next_of(work, x.moving);
+    let block = next_of(work, &x);
     let y = act_moving(
         tables,
         model.values,
@@ -196,7 +184,7 @@ fn after_taking(
         model.values,
         work,
         tally,
-        y,
+        &y,
         before,
         block,
     );
@@ -207,14 +195,13 @@ pub fn turn(
     model: Model,
     tables: &[u32; TABLES],
     tape: &[u8],
-    work: &mut [u32],
+    work: &mut Work,
     tally: &mut [u64; TALLY],
     trace: &mut [u8],
     x: Scalars,
 ) -> Scalars
     requires facilities_le_max_facilities { model.facilities ≤ max_facilities }
     requires blocks_le_max_blocks { model.blocks ≤ max_blocks }
-    requires room { Room work.old }
     ensures { traced (rows_of result work.new tally.new) trace.new
         ≡ turn model tables.now tape.now work.old tally.old trace.old x }
 {

@@ -1,11 +1,18 @@
 // The record of a block, written behind the others, and the count of its entries or waits.
 ghost use Rattle.std.specs.Prelude.{◌≡◌};
-ghost use Rattle.turn_laws.specs.Note.{Bytes, bytes, append_record, cell_of, count_record, noted, note_record};
+ghost use Rattle.state.specs.Notes.{note_number};
+ghost use Rattle.turn_laws.specs.Note.{bytes, append_record, cell_of, count_record, noted, note_record};
 
 use layout::{WAITS, count, set_count};
-use saturating::plus64;
-use state::{ENTERED, NO_RECORD, Scalars};
-use trace::{Written, write_record};
+use state::{Note, Scalars};
+use trace::{Record, write_record};
+
+// The outcome as a record has it.
+fn outcome_number(outcome: Note) -> u64
+    ensures { result ≡ note_number outcome }
+{
+    outcome as u64
+}
 
 // Writes a record into the unused rest of the trace buffer; answers how many bytes are used then.
 pub fn append_record(
@@ -14,41 +21,41 @@ pub fn append_record(
     clock: u64,
     number: u32,
     block: u32,
-    outcome: u32,
+    outcome: Note,
 ) -> usize
-    ensures { bytes result trace.new ≡ append_record trace.old used clock number block outcome }
+    ensures { bytes result trace.new ≡ append_record trace.old used clock number block (note_number outcome) }
 {
     if trace.len() < used {
         return used;
     }
-    match write_record(
-        &mut trace[used..],
+    let record = Record {
         clock,
-        number as u64,
-        block as u64,
-        outcome as u64,
-    ) {
-        Written::Bytes(n) => used + n,
-        Written::Refused(_) => used,
+        transaction: number as u64,
+        block: block as u64,
+        outcome: outcome_number(outcome),
+    };
+    match write_record(&mut trace[used..], record) {
+        Ok(n) => used + n,
+        Err(_) => used,
     }
 }
 
 // Entries of block b stand at b - 1 of the tally, its waits at WAITS + b - 1.
-fn cell(block: u32, outcome: u32) -> usize
-    ensures { result ≡ cell_of block outcome }
+fn cell(block: u32, outcome: Note) -> usize
+    ensures { result ≡ cell_of block (note_number outcome) }
 {
-    let b = saturating::less32(block, 1) as usize;
-    if outcome == ENTERED {
-        return b;
+    let b = block.saturating_sub(1) as usize;
+    match outcome {
+        Note::Entered => b,
+        Note::Waits | Note::NoRecord => WAITS + b,
     }
-    WAITS + b
 }
 
-pub fn count_record(tally: &mut [u64], block: u32, outcome: u32)
-    ensures { tally.new ≡ count_record tally.old block outcome }
+pub fn count_record(tally: &mut [u64], block: u32, outcome: Note)
+    ensures { tally.new ≡ count_record tally.old block (note_number outcome) }
 {
     let at = cell(block, outcome);
-    let n = plus64(count(tally, at), 1);
+    let n = count(tally, at).saturating_add(1);
     set_count(tally, at, n);
 }
 
@@ -62,8 +69,8 @@ pub fn note_record(
 ) -> Scalars
     ensures { noted result tally.new trace.new ≡ note_record tally.old trace.old x number block }
 {
-    let outcome = x.note;
-    if outcome >= NO_RECORD {
+    let outcome = x.note.note();
+    if let Note::NoRecord = outcome {
         return x;
     }
     count_record(tally, block, outcome);

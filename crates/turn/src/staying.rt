@@ -1,33 +1,29 @@
 // The turns of those who come back to a WAITIF or an ENTER and wait again: they go from REL to the WSL or to a QL, whose length is counted,
 // and nothing else is done.
+ghost use Rattle.constants.specs.Numbers.{kind_number};
 ghost use Rattle.std.specs.Prelude.{◌≡◌, ◌≢◌, ◌-◌, ◌%◌, ◌<◌, ◌≤◌};
-ghost use Rattle.layout.specs.All.{server_count};
-ghost use Rattle.rows_laws.specs.All.{Room, row_count, standing_field, read};
+ghost use Rattle.rows_laws.specs.All.{row_count, standing_field, read};
 ghost use Rattle.turn_laws.specs.Staying.{back_to, quiet, all_wait, stayed, server_of, short, crowded, lengthened_by, ends_at, comes_with, WhereLine, tied, Lines};
 
-use constants::Model;
-use constants::kinds::WAIT_TERMS;
+use constants::{Kind, Model};
 use layout::{
     ASKED, BLOCK_WIDTH, EDITION, FIRST, QL_LENGTH, SECOND, TABLES, TALLY, count, number, set_count,
 };
 use rows::cells::{get, load, read, set, store};
 use rows::lists::{end_at, first, put, take_first};
 use rows::order::outranks;
-use rows::{HEADS, LINKS, NEXT, PLACES, REL, ROWS, SERIAL, STANDING, TAILS, WSL};
-use saturating::{less32, less64, plus64};
+use rows::{Chain, LINKS, NEXT, ROWS, Row, SERIAL, STANDING, Server, Work};
 use servers::units::{capacity, in_use, server_at};
 use state::behind;
 use values_queues::held_by_all;
 
 // The block to which the first of REL comes back, 0 for none.
-pub fn back_to(work: &[u32]) -> u32
-    requires { Room work.now }
+pub fn back_to(work: &Work) -> u32
     ensures { result ≡ back_to work.now }
 {
-    let k = first(work, REL);
-    if k >= ROWS {
+    let Some(k) = first(work, Chain::REL) else {
         return 0;
-    }
+    };
     if read(work, STANDING, k) % 2 != 1 {
         return 0;
     }
@@ -35,8 +31,8 @@ pub fn back_to(work: &[u32]) -> u32
 }
 
 // Is a block of this kind, and does nobody read what a turn at it changes?
-pub fn quiet(tables: &[u32; TABLES], kind: u32, block: u32) -> bool
-    ensures { result ≡ quiet tables.now kind block }
+pub fn quiet(tables: &[u32; TABLES], kind: Kind, block: u32) -> bool
+    ensures { result ≡ quiet tables.now (kind_number kind) block }
 {
     if block == 0 {
         return false;
@@ -45,7 +41,7 @@ pub fn quiet(tables: &[u32; TABLES], kind: u32, block: u32) -> bool
     if b >= Model::MAX_BLOCKS {
         return false;
     }
-    if number(tables, BLOCK_WIDTH * b) != kind {
+    if number(tables, BLOCK_WIDTH * b) != kind.number() {
         return false;
     }
     number(tables, ASKED + b) == 0
@@ -61,32 +57,27 @@ pub fn all_wait(
 ) -> bool
     ensures { result ≡ all_wait tables.now values tally.now clock block }
 {
-    if !quiet(tables, WAIT_TERMS, block) {
+    if !quiet(tables, Kind::WaitTerms, block) {
         return false;
     }
-    let b = less32(block, 1) as usize;
+    let b = block.saturating_sub(1) as usize;
     held_by_all(tables, values, tally, clock, BLOCK_WIDTH * b)
 }
 
 // The first of REL goes back to the WSL.
-pub fn stay(work: &mut [u32])
-    requires { Room work.old }
+pub fn stay(work: &mut Work)
     ensures { work.new ≡ stayed work.old }
 {
-    let k = first(work, REL);
-    if k >= ROWS {
-        return;
+    if let Some(k) = take_first(work, Chain::REL) {
+        put(work, Chain::WSL, k);
     }
-    take_first(work, REL);
-    put(work, WSL, k);
 }
 
 // The server that the ENTER of a block names.
-fn server_of(tables: &[u32; TABLES], block: u32) -> u32
-    ensures server { result ≡ server_of tables.now block }
-    ensures small { result < server_count }
+fn server_of(tables: &[u32; TABLES], block: u32) -> Server
+    ensures { result ≡ server_of tables.now block }
 {
-    let b = less32(block, 1) as usize;
+    let b = block.saturating_sub(1) as usize;
     server_at(tables, BLOCK_WIDTH * b + FIRST)
 }
 
@@ -95,8 +86,8 @@ fn short(tables: &[u32; TABLES], tally: &[u64; TALLY], block: u32) -> bool
     ensures { result ≡ short tables.now tally.now block }
 {
     let v = server_of(tables, block);
-    let free = less64(capacity(tables, v), in_use(tally, v));
-    let b = less32(block, 1) as usize;
+    let free = capacity(tables, v).saturating_sub(in_use(tally, v));
+    let b = block.saturating_sub(1) as usize;
     free < number(tables, BLOCK_WIDTH * b + SECOND) as u64
 }
 
@@ -104,53 +95,39 @@ fn short(tables: &[u32; TABLES], tally: &[u64; TALLY], block: u32) -> bool
 pub fn crowded(tables: &[u32; TABLES], tally: &[u64; TALLY], block: u32) -> bool
     ensures { result ≡ crowded tables.now tally.now block }
 {
-    let v = server_of(tables, block) as usize;
-    if behind(tally, v) {
-        return false;
-    }
-    short(tables, tally, block)
+    let v = server_of(tables, block);
+    !behind(tally, v.index()) && short(tables, tally, block)
 }
 
 // Its QL is longer by n.
 pub fn lengthen(tables: &[u32; TABLES], tally: &mut [u64; TALLY], block: u32, n: u32)
     ensures { tally.new ≡ lengthened_by tables.now tally.old block n }
 {
-    let at = QL_LENGTH + (server_of(tables, block) as usize);
-    let m = plus64(count(tally, at), n as u64);
+    let at = QL_LENGTH + server_of(tables, block).index();
+    let m = count(tally, at).saturating_add(n as u64);
     set_count(tally, at, m);
 }
 
 // Is cell c the last of list v, behind which row k may come?
-fn ends_at(work: &[u32], v: u32, c: u32, k: u32) -> bool
-    requires room { Room work.now }
-    requires v_lt_server_count { v < server_count }
-    requires k_lt_row_count { k < row_count }
+fn ends_at(work: &Work, v: Server, c: u32, k: Row) -> bool
     ensures { result ≡ ends_at work.now v c k }
 {
-    if c == HEADS + v {
+    if c == Chain::queue(v).head() {
         return true;
     }
     if c < LINKS {
         return false;
     }
-    let j = c - LINKS;
-    if j >= ROWS {
-        return false;
+    match Row::of(c - LINKS) {
+        Some(j) => j != k && !outranks(work, k, j),
+        None => false,
     }
-    if j == k {
-        return false;
-    }
-    !outranks(work, k, j)
 }
 
 // Does row n come back to that block too, behind one of this standing and serial?
-fn comes_with(work: &[u32], n: u32, block: u32, standing: u32, serial: u32) -> bool
-    requires { Room work.now }
-    ensures { result ≡ comes_with work.now n block standing serial }
+fn comes_with(work: &Work, n: Row, block: u32, standing: u32, serial: u32) -> bool
+    ensures { n < row_count → result ≡ comes_with work.now n block standing serial }
 {
-    if n >= ROWS {
-        return false;
-    }
     if read(work, NEXT, n) != block {
         return false;
     }
@@ -161,25 +138,19 @@ fn comes_with(work: &[u32], n: u32, block: u32, standing: u32, serial: u32) -> b
 }
 
 // List v ends with row l and m, which is no row; REL begins with what stood behind l.
-fn tie(work: &mut [u32], v: u32, l: u32, m: u32)
-    requires room { Room work.old }
-    requires v_lt_server_count { v < server_count }
-    requires l_lt_row_count { l < row_count }
+fn tie(work: &mut Work, v: Server, l: Row, m: u32)
     ensures { work.new ≡ tied work.old v l m }
 {
-    let n = get(work, LINKS + l);
-    set(work, HEADS + REL, n);
-    set(work, LINKS + l, m);
-    set(work, TAILS + v, LINKS + l);
-    end_at(work, REL, n, HEADS + REL);
+    let n = get(work, l.link());
+    set(work, Chain::REL.head(), n);
+    set(work, l.link(), m);
+    set(work, Chain::queue(v).tail(), l.link());
+    end_at(work, Chain::REL, n, Chain::REL.head());
 }
 
 // Behind row k, which has gone back to list v, those go back too that come with it, at most so many with it; answers how many. Their links
 // stay, and what else is theirs to change is changed once, behind the last.
-fn line_on(work: &mut [u32], v: u32, k: u32, m: u32, block: u32, most: u32) -> u32
-    requires room { Room work.old }
-    requires v_lt_server_count { v < server_count }
-    requires k_lt_row_count { k < row_count }
+fn line_on(work: &mut Work, v: Server, k: Row, m: u32, block: u32, most: u32) -> u32
     requires le_most { 1 ≤ most }
     ensures lines { row_count ≤ m → read work.old standing_field k % 2 ≡ 1
         → WhereLine block v (λ tables. Lines tables block (tied work.old v k m) (result - 1) work.new) }
@@ -189,25 +160,25 @@ fn line_on(work: &mut [u32], v: u32, k: u32, m: u32, block: u32, most: u32) -> u
     let standing = read(work, STANDING, k);
     let mut serial = read(work, SERIAL, k);
     let mut last = k;
-    let mut i: u32 = 1;
-    while i < most {
-        let n = get(work, LINKS + last);
-        if !comes_with(work, n, block, standing, serial) {
-            tie(work, v, last, m);
-            return i;
+    for i in 1..most {
+        match Row::of(get(work, last.link())) {
+            Some(n) if comes_with(work, n, block, standing, serial) => {
+                serial = read(work, SERIAL, n);
+                set(work, n.place(), v.number());
+                last = n;
+            }
+            _ => {
+                tie(work, v, last, m);
+                return i;
+            }
         }
-        serial = read(work, SERIAL, n);
-        set(work, PLACES + n, v);
-        last = n;
-        i += 1;
     }
     tie(work, v, last, m);
-    i
+    most
 }
 
 // The first of REL goes back to the QL of its ENTER, and those with it that come behind it, under edition 1; answers how many.
-pub fn line_all(tables: &[u32; TABLES], work: &mut [u32], block: u32, most: u32) -> u32
-    requires { Room work.old }
+pub fn line_all(tables: &[u32; TABLES], work: &mut Work, block: u32, most: u32) -> u32
     ensures lines { block ≢ 0 → Lines tables.now block work.old result work.new }
     ensures few { result ≤ most }
 {
@@ -220,12 +191,11 @@ pub fn line_all(tables: &[u32; TABLES], work: &mut [u32], block: u32, most: u32)
     if back_to(work) != block {
         return 0;
     }
-    let k = first(work, REL);
-    if k >= ROWS {
+    let Some(k) = first(work, Chain::REL) else {
         return 0;
-    }
+    };
     let v = server_of(tables, block);
-    let c = get(work, TAILS + v);
+    let c = get(work, Chain::queue(v).tail());
     if !ends_at(work, v, c, k) {
         return 0;
     }
@@ -233,7 +203,7 @@ pub fn line_all(tables: &[u32; TABLES], work: &mut [u32], block: u32, most: u32)
     if m < ROWS {
         return 0;
     }
-    store(work, c, k);
-    set(work, PLACES + k, v);
+    store(work, c, k.number());
+    set(work, k.place(), v.number());
     line_on(work, v, k, m, block, most)
 }

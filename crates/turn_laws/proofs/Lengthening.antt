@@ -3,7 +3,7 @@ use Rattle.machine.specs.All.{cases, ℕ, ◌+◌, ◌≤◌, ◌<◌, ◌≡◌
 use Rattle.machine.proofs.Basic.Bools.{cond_false}
 use Rattle.layout.specs.Layout as Layout
 use Rattle.state.specs.All.{behind, update_server}
-use Rattle.servers_laws.specs.{Units.server_at, Units.in_use, Taking.longer}
+use Rattle.servers_laws.specs.{Units.server_at, Taking.longer}
 use Rattle.turn_laws.specs.{server_of, place_in, short, lengthened, crowded, lengthened_by}
 
 module _ (tables tally : List ℕ) (block : ℕ) where

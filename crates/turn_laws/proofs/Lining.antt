@@ -290,8 +290,6 @@ pub record Lining (block v m : ℕ) (w₀ : List ℕ) (l₀ standing most : ℕ)
   -- the rows with the chain so far are those after so many who line up one by one
   pub same : 1024 ≤ m → standing % 2 ≡ 1 → WhereLine block v (λ tables. Lines tables block (tied w₀ v l₀ m) (i - 1) (tied w v l m))
   pub room : 16384 ≤ length w₀
-  pub low : v < 64
-  pub row : l < 1024
   pub stands : read w 1 l ≡ standing
   pub serial-is : read w 7 l ≡ serial
   pub some : 1 ≤ i
@@ -299,15 +297,13 @@ pub record Lining (block v m : ℕ) (w₀ : List ℕ) (l₀ standing most : ℕ)
   pub kept : length w ≡ length w₀
 
 -- the walk begins with the first alone
-pub lining-none : {block v m : ℕ} {w : List ℕ} {l most : ℕ} → 16384 ≤ length w → v < 64 → l < 1024 → 1 ≤ most
+pub lining-none : {block v m : ℕ} {w : List ℕ} {l most : ℕ} → 16384 ≤ length w → 1 ≤ most
     → Lining block v m w l (read w 1 l) most w l (read w 7 l) 1
 unfolding lined_times
-lining-none room low hl some =
+lining-none room some =
     record {
       same = λ none odd tables server edition. record { rows = refl; back = λ i h. absurd (omega arith) };
       room = room;
-      low = low;
-      row = hl;
       stands = refl;
       serial-is = refl;
       some = omega arith;
@@ -327,17 +323,16 @@ comes-is w n block standing serial h =
 
 -- one step of the walk
 pub lining-next : {block v m : ℕ} {w₀ : List ℕ} {l₀ standing most : ℕ} {w : List ℕ} {l serial i : ℕ}
-    → Lining block v m w₀ l₀ standing most w l serial i
+    → Lining block v m w₀ l₀ standing most w l serial i → v < 64 → l < 1024
     → (k : ℕ) → k ≡ load w (link l) → comes_with w k block standing serial ≡ true → i < most → (w' : List ℕ) → w' ≡ store w (place k) v
     → (serial' : ℕ) → serial' ≡ read w 7 k
     → Lining block v m w₀ l₀ standing most w' k serial' (i + 1)
 unfolding lined_times
-lining-next {block} {v} {m} {w₀} {l₀} {standing} {most} {w} {l} {serial} {i} h k at comes more w' is serial' is' =
+lining-next {block} {v} {m} {w₀} {l₀} {standing} {most} {w} {l} {serial} {i} h hv hl k at comes more w' is serial' is' =
     let c = comes-is w k block standing serial comes in
     let next : Next w block l k =
     record { row = c.0; next = c.1; standing = c.2 ∙ sym h.stands; later = omega (arith, h.serial-is, c.3) } in
     let room' : 16384 ≤ length w = omega (arith, h.kept, h.room) in
-    let hv = h.low in
     let own : (f : ℕ) → f < 11 → read w' f k ≡ read w f k = λ f hf. ap (λ z. read z f k) is
     ∙ load-other w (place k) v (field_at f k) (λ q. omega arith) in
     let before : i + 1 - 1 ≡ suc (i - 1) = omega (arith, h.some) in
@@ -349,16 +344,14 @@ lining-next {block} {v} {m} {w₀} {l₀} {standing} {most} {w} {l} {serial} {i}
           (record {
             rows =
                 sym (ap (λ z. lined tables z block) (sym done.rows)
-                ∙ tied-next w v l m room' hv h.row none block k (sym at) next tables server edition);
+                ∙ tied-next w v l m room' hv hl none block k (sym at) next tables server edition);
             back = λ j hj. cases (ltb j (i - 1))
                 (λ e. done.back j (ltb-true j _ e))
                 (λ e. let last : j ≡ i - 1 = omega (arith, ltb-false j _ e) in
                 rw last (rw (← done.rows)
-                (comes_back w v l m room' hv h.row none block k (sym at) next (ap (λ z. z % 2) h.stands ∙ odd))));
+                (comes_back w v l m room' hv hl none block k (sym at) next (ap (λ z. z % 2) h.stands ∙ odd))));
           });
       room = h.room;
-      low = h.low;
-      row = c.0;
       stands = own 1 (omega arith) ∙ c.2;
       serial-is = own 7 (omega arith) ∙ sym is';
       some = omega (arith, h.some);

@@ -1,17 +1,15 @@
 // Blocks that count: ARRIVE and DEPART, on the content of a queue in the tally.
-ghost use Rattle.std.specs.Prelude.{◌≡◌, ◌+◌, ◌<◌, ◌≤◌};
+ghost use Rattle.std.specs.Prelude.{◌≡◌, ◌<◌};
 ghost use Rattle.machine.specs.All.{max_queues};
 ghost use Rattle.layout.specs.All.{program_size};
-ghost use Rattle.rows_laws.specs.All.{Room, row_count};
 ghost use Rattle.state.specs.All.{rows_of};
 ghost use Rattle.values_queues_laws.specs.Queues.{queue_of, change, arrive_rows, depart_rows};
 
-use constants::Model;
-use constants::ends::NO_CONTENT;
+use constants::{End, Model};
 use layout::{CONTENT, FIRST, count, number, set_count};
 use moves::{go_on, stop};
-use saturating::plus64;
-use state::{Scalars, update_queue};
+use rows::Work;
+use state::{Moving, Scalars, update_queue};
 
 const QUEUES: u32 = Model::MAX_QUEUES as u32;
 
@@ -25,41 +23,41 @@ fn queue_at(tables: &[u32], at: usize) -> usize
 }
 
 // Its content is n from now on, and the transaction goes on.
-fn change(work: &mut [u32], tally: &mut [u64], x: Scalars, q: usize, n: u64) -> Scalars
-    requires room { Room work.old }
-    requires moving_lt_row_count { x.moving < row_count }
+fn change(work: &mut Work, tally: &mut [u64], x: Moving, q: usize, n: u64) -> Scalars
     requires q_lt_max_queues { q < max_queues }
     ensures { rows_of result work.new tally.new ≡ change work.old tally.old x q n }
 {
-    update_queue(tally, q, x.clock);
+    update_queue(tally, q, x.scalars().clock);
     set_count(tally, CONTENT + q, n);
     go_on(work, x)
 }
 
 // 15 ARRIVE q: one more content.
-pub fn arrive(tables: &[u32], work: &mut [u32], tally: &mut [u64], x: Scalars, at: usize) -> Scalars
+pub fn arrive(tables: &[u32], work: &mut Work, tally: &mut [u64], x: Moving, at: usize) -> Scalars
     requires at_lt_program_size { at < program_size }
-    requires room { Room work.old }
-    requires moving_lt_row_count { x.moving < row_count }
     ensures { rows_of result work.new tally.new
         ≡ arrive_rows tables.now work.old tally.old x at }
 {
     let q = queue_at(tables, at);
-    change(work, tally, x, q, plus64(count(tally, CONTENT + q), 1))
+    change(
+        work,
+        tally,
+        x,
+        q,
+        count(tally, CONTENT + q).saturating_add(1),
+    )
 }
 
 // 16 DEPART q: "Has the queue content? 25." One content less.
-pub fn depart(tables: &[u32], work: &mut [u32], tally: &mut [u64], x: Scalars, at: usize) -> Scalars
+pub fn depart(tables: &[u32], work: &mut Work, tally: &mut [u64], x: Moving, at: usize) -> Scalars
     requires at_lt_program_size { at < program_size }
-    requires room { Room work.old }
-    requires moving_lt_row_count { x.moving < row_count }
     ensures { rows_of result work.new tally.new
         ≡ depart_rows tables.now work.old tally.old x at }
 {
     let q = queue_at(tables, at);
     let content = count(tally, CONTENT + q);
     if content == 0 {
-        return stop(x, NO_CONTENT);
+        return stop(x.scalars(), End::NoContent);
     }
     change(work, tally, x, q, content - 1)
 }

@@ -1,36 +1,33 @@
 // A side of a comparison, for those that wait on it: one that names no parameter is worth the same to all, and is evaluated once
 // for those that stand at one WAITIF.
-ghost use Rattle.std.specs.Prelude.{◌≡◌, ◌+◌, ◌<◌};
+ghost use Rattle.std.specs.Prelude.{◌≡◌, ◌<◌};
 ghost use Rattle.machine.specs.All.{get_or};
 ghost use Rattle.layout.specs.All.{program_size, tables_size};
-ghost use Rattle.rows_laws.specs.All.{Room, row_count};
 ghost use Rattle.evaluation.specs.Evaluation.{term_at};
 ghost use Rattle.values_queues_laws.specs.Comparison.{parameters_at};
-ghost use Rattle.values_queues_laws.specs.Sides.{names_own, side_at, side_by, ForAll};
+ghost use Rattle.values_queues_laws.specs.Sides.{answer_number, names_own, side_at, side_by, ForAll};
 ghost use Rattle.values_queues_laws.specs.Waits.{held_at, held_by_all};
 
 use crate::comparison::parameters_of;
 use constants::Model;
-use evaluation::{bits, compare_at, related, signed, term_at};
-use layout::{FIRST, NAMES_OWN, RIGHT, TABLES, TALLY, THIRD, number};
-use rows::PARAMETER_1;
+use evaluation::{Relation, View};
+use layout::{FIRST, NAMES_OWN, RIGHT, TABLES, TALLY, THIRD, Tag, number};
 use rows::cells::read;
+use rows::{PARAMETER_1, Row, Work};
 
 const PARAMETERS: u32 = Model::PARAMETERS as u32;
 
-const PARAMETER_TAG: u32 = 2;
+const PARAMETER_TAG: u32 = Tag::Parameter as u32;
 
-const VALUE_TAG: u32 = layout::VALUE_TAG as u32;
+const VALUE_TAG: u32 = Tag::Value as u32;
 
 // The left term of a block at a position, and the right one.
 pub const LEFT_SIDE: usize = FIRST;
 
 pub const RIGHT_SIDE: usize = FIRST + RIGHT;
 
-// No answer for all: 2 to the 32.
-pub const OWN: u64 = 4_294_967_296;
-
-// Does the term at `at` name a parameter, itself or through values? Past the tables it counts as one that does.
+// Does the term at `at` name a parameter, itself or through values? Past the tables it counts as one that does. Kept by the numbers of
+// tags: a match over `Tag` becomes a table of jumps, which was slower in `term` of evaluation (59 ns, and 47 by numbers).
 fn names_own(tables: &[u32; TABLES], at: usize) -> bool
     ensures { result ≡ names_own tables.now at }
 {
@@ -49,45 +46,29 @@ fn names_own(tables: &[u32; TABLES], at: usize) -> bool
 }
 
 // What the term at `at` is worth to all, as bits, if it names no parameter.
-fn for_all(
-    tables: &[u32; TABLES],
-    values: usize,
-    tally: &[u64; TALLY],
-    clock: u64,
-    at: usize,
-) -> u64
-    ensures { ForAll tables.now values tally.now clock at result }
+fn for_all(view: &View, at: usize) -> Option<u32>
+    ensures { ForAll view.now.tables.now view.now.values view.now.tally.now view.now.clock at (answer_number result) }
 {
-    if names_own(tables, at) {
-        return OWN;
+    if names_own(view.tables, at) {
+        return None;
     }
     let none = [0u32; Model::PARAMETERS];
-    bits(term_at(tables, tally, values, clock, &none, at)) as u64
+    Some(view.term_at(&none, at).cast_unsigned())
 }
 
 // The answer for all at `at`, where `known` is the one at `seen`.
-pub fn shared(
-    tables: &[u32; TABLES],
-    values: usize,
-    tally: &[u64; TALLY],
-    clock: u64,
-    seen: usize,
-    known: u64,
-    at: usize,
-) -> u64
-    ensures { ForAll tables.now values tally.now clock seen known
-        → ForAll tables.now values tally.now clock at result }
+pub fn shared(view: &View, seen: usize, known: Option<u32>, at: usize) -> Option<u32>
+    ensures { ForAll view.now.tables.now view.now.values view.now.tally.now view.now.clock seen (answer_number known)
+        → ForAll view.now.tables.now view.now.values view.now.tally.now view.now.clock at (answer_number result) }
 {
     if seen == at {
         return known;
     }
-    for_all(tables, values, tally, clock, at)
+    for_all(view, at)
 }
 
 // Parameter i (from 0) of row k, as bits; 0 if there is none.
-fn parameter(work: &[u32], k: u32, i: u32) -> u32
-    requires room { Room work.now }
-    requires k_lt_row_count { k < row_count }
+fn parameter(work: &Work, k: Row, i: u32) -> u32
     ensures { result ≡ get_or (parameters_at work.now k) i 0 }
 {
     if i >= PARAMETERS {
@@ -97,89 +78,50 @@ fn parameter(work: &[u32], k: u32, i: u32) -> u32
 }
 
 // What the term at `at` is worth to row k, with its own parameters.
-fn own(
-    tables: &[u32; TABLES],
-    values: usize,
-    work: &[u32],
-    tally: &[u64; TALLY],
-    clock: u64,
-    k: u32,
-    at: usize,
-) -> i32
+fn own(view: &View, work: &Work, k: Row, at: usize) -> i32
     requires at_lt_tables_size { at < tables_size }
-    requires room { Room work.now }
-    requires k_lt_row_count { k < row_count }
-    ensures { result ≡ term_at tables.now tally.now values clock (parameters_at work.now k) at }
+    ensures { result ≡ term_at view.now.tables.now view.now.tally.now view.now.values view.now.clock (parameters_at work.now k) at }
 {
+    let tables = view.tables;
     if number(tables, at) == PARAMETER_TAG {
-        return signed(parameter(work, k, number(tables, at + 1)));
+        return parameter(work, k, number(tables, at + 1)).cast_signed();
     }
     let parameters = parameters_of(work, k);
-    term_at(tables, tally, values, clock, &parameters, at)
+    view.term_at(&parameters, at)
 }
 
 // The same, by an answer for all if there is one.
-pub fn side(
-    tables: &[u32; TABLES],
-    values: usize,
-    work: &[u32],
-    tally: &[u64; TALLY],
-    clock: u64,
-    k: u32,
-    at: usize,
-    answer: u64,
-) -> i32
+pub fn side(view: &View, work: &Work, k: Row, at: usize, answer: Option<u32>) -> i32
     requires at_lt_tables_size { at < tables_size }
-    requires room { Room work.now }
-    requires k_lt_row_count { k < row_count }
-    ensures { result ≡ side_by tables.now values tally.now clock answer work.now k at }
+    ensures { result ≡ side_by view.now.tables.now view.now.values view.now.tally.now view.now.clock (answer_number answer) work.now k at }
 {
-    if answer < OWN {
-        return signed(answer as u32);
+    match answer {
+        Some(bits) => bits.cast_signed(),
+        None => own(view, work, k, at),
     }
-    own(tables, values, work, tally, clock, k, at)
 }
 
 // The same in a turn of row k: one that names no parameter is evaluated with none.
-fn worth_to(
-    tables: &[u32; TABLES],
-    values: usize,
-    work: &[u32],
-    tally: &[u64; TALLY],
-    clock: u64,
-    k: u32,
-    at: usize,
-) -> i32
+fn worth_to(view: &View, work: &Work, k: Row, at: usize) -> i32
     requires at_lt_tables_size { at < tables_size }
-    requires room { Room work.now }
-    requires k_lt_row_count { k < row_count }
-    ensures { result ≡ side_at tables.now values tally.now clock work.now k at }
+    ensures { result ≡ side_at view.now.tables.now view.now.values view.now.tally.now view.now.clock work.now k at }
 {
-    if names_own(tables, at) {
-        return own(tables, values, work, tally, clock, k, at);
+    if names_own(view.tables, at) {
+        return own(view, work, k, at);
     }
     let none = [0u32; Model::PARAMETERS];
-    term_at(tables, tally, values, clock, &none, at)
+    view.term_at(&none, at)
 }
 
 // Does the comparison of the WAITIF at `at` hold for row k?
-pub fn held(
-    tables: &[u32; TABLES],
-    values: usize,
-    work: &[u32],
-    tally: &[u64; TALLY],
-    clock: u64,
-    k: u32,
-    at: usize,
-) -> bool
+pub fn held(view: &View, work: &Work, k: Row, at: usize) -> bool
     requires at_lt_program_size { at < program_size }
-    requires room { Room work.now }
-    requires k_lt_row_count { k < row_count }
-    ensures { result ≡ held_at tables.now values work.now tally.now clock k at }
+    ensures { result ≡ held_at view.now.tables.now view.now.values work.now view.now.tally.now view.now.clock k at }
 {
-    let a = worth_to(tables, values, work, tally, clock, k, at + LEFT_SIDE);
-    let b = worth_to(tables, values, work, tally, clock, k, at + RIGHT_SIDE);
-    related(number(tables, at + THIRD), a, b)
+    let tables = view.tables;
+    let a = worth_to(view, work, k, at + LEFT_SIDE);
+    let b = worth_to(view, work, k, at + RIGHT_SIDE);
+    Relation::of(number(tables, at + THIRD)).holds(a, b)
 }
 
 // Does it name no parameter, and hold for all?
@@ -199,6 +141,12 @@ pub fn held_by_all(
     if names_own(tables, at + RIGHT_SIDE) {
         return false;
     }
+    let view = View {
+        tables,
+        tally,
+        values,
+        clock,
+    };
     let none = [0u32; Model::PARAMETERS];
-    compare_at(tables, tally, values, clock, &none, at + FIRST)
+    view.compare_at(&none, at + FIRST)
 }

@@ -1,5 +1,5 @@
 -- Parameters as bits are the machine's signed ones, and whatever a term of a block is worth lies in the range of 32 bits.
-use Rattle.machine.specs.All.{cases, ℕ, zero, suc, ◌-◌, ◌≤◌, ◌<◌, ◌≡◌, Bool, true, false, List, [], ◌∷◌, ◌++◌, arith, ltb-true, ltb-false, T, ltb, leb→le, lit<, get_or, max_constant, View, server_at, queue_at, signed, wrap, one_if, Term, constant, minus_constant, parameter, clock_term, entries_of, content_of, units_in_use, units_free, facility_in_use, value, comparison, bracket, Sum, nothing, plus, minus, term, sum, worths, evaluate, Each}
+use Rattle.machine.specs.All.{ℕ, zero, suc, ◌-◌, ◌≤◌, ◌<◌, ◌≡◌, Bool, true, false, List, [], ◌∷◌, ◌++◌, arith, ltb-true, ltb-false, T, ltb, leb→le, lit<, get_or, max_constant, View, server_at, queue_at, signed, wrap, one_if, Term, constant, minus_constant, parameter, clock_term, entries_of, content_of, units_in_use, units_free, facility_in_use, value, comparison, bracket, Sum, nothing, plus, minus, term, sum, worths, evaluate, Each}
 use lib.IntN.{ℤ, pos, neg_ℤ}
 use lib.Signed.{mag}
 use mir.Syntax.{w32}

@@ -1,5 +1,5 @@
 -- ARRIVE and DEPART leave what the machine's do.
-use Rattle.machine.specs.All.{decided, ℕ, zero, suc, ◌+◌, ◌-◌, ◌%◌, ◌≤◌, ◌<◌, min, ◌≡◌, refl, ◌∙◌, ◌≢◌, false, cond, List, none, arith, ℕ_discrete, ne_eqb, le-leb, leb, eqb, length, get_or, set, length-set, get_or-set_same, get_or-set_other, Transaction, Queue, empty_queue, queue_at, arrive, depart, BlockModel, Change, counts, State, with_content, set_moving, unless, question, ask_content, changed}
+use Rattle.machine.specs.All.{ℕ, zero, suc, ◌+◌, ◌-◌, ◌%◌, ◌≤◌, ◌<◌, min, ◌≡◌, refl, ◌∙◌, ◌≢◌, false, cond, List, none, arith, ℕ_discrete, ne_eqb, le-leb, leb, eqb, length, get_or, set, length-set, get_or-set_same, get_or-set_other, Transaction, Queue, empty_queue, queue_at, arrive, depart, BlockModel, Change, counts, State, with_content, set_moving, unless, question, ask_content, changed}
 use Rattle.machine.specs.Moves as Moves
 use Rattle.machine.proofs.Decoding.Proper.{Names}
 use Rattle.layout.specs.Layout as Layout

@@ -1,5 +1,5 @@
 -- The WS scheme over the rows is the machine's.
-use Rattle.machine.specs.All.{cases, ℕ, ◌+◌, ◌-◌, ◌*◌, ◌≤◌, ◌<◌, ◌≡◌, refl, sym, ap, ◌∙◌, subst, Bool, true, false, cond, not, List, ◌∷◌, Option, none, arith, ltb-true, ltb-false, lt-ltb, le-ltb, ltb, eqb, length, get_or, get_or-eq_default, Transaction, View, compare, Term, Relation, truth, Block, terminate, facility, storage, wait_terms, facts, BlockModel, State, wake_wsl}
+use Rattle.machine.specs.All.{ℕ, ◌+◌, ◌-◌, ◌*◌, ◌≤◌, ◌<◌, ◌≡◌, refl, sym, ap, ◌∙◌, subst, Bool, true, false, cond, not, List, ◌∷◌, Option, none, arith, ltb-true, ltb-false, lt-ltb, le-ltb, ltb, eqb, length, get_or, get_or-eq_default, Transaction, View, compare, Term, Relation, truth, Block, terminate, facility, storage, wait_terms, facts, BlockModel, State, wake_wsl}
 use Rattle.machine.specs.Turn as Turn
 use Rattle.machine.proofs.Decoding.Proper.{Proper}
 use Rattle.layout.specs.All.{block_forms, block_numbers, Represents}

@@ -7,15 +7,14 @@ use mir.Val.{to_z, of_z}
 use Rattle.layout.specs.All.{block_forms, relation_number, term_numbers, At, small_term, Represents}
 use Rattle.layout.specs.Layout as Layout
 use Rattle.rows_laws.specs.All.{read, transaction_at}
-use Rattle.evaluation.specs.Evaluation.{simple_term, term_at, related_by, compare_at}
+use Rattle.evaluation.specs.Evaluation.{simple_term, value_below, term_at, related_by, compare_at}
 use Rattle.evaluation.specs.{Nested.nested_term, Nested.nested_block, Nested.Nested, Sees.Sees}
-use Rattle.evaluation.proofs.{Found.at_first, Found.at_front, Found.at_back, Signs.low32-lt, Signs.back, Signs.signed_low, Steps.term_simple, Terms.and_left, Terms.and_right, Terms.related-by, Values.worths-length, Laws.two-numbers, Laws.term_law}
+use Rattle.evaluation.proofs.{Found.at_first, Found.at_front, Found.at_back, Signs.low32-lt, Signs.back, Signs.cast-unsigned-is, Signs.signed_low, Steps.term_simple, Terms.and_left, Terms.and_right, Terms.related-by, Values.worths-length, Laws.two-numbers, Laws.term_law}
 use Rattle.values_queues_laws.specs.{parameters_at, block_of, leaves_from, leaves, leaves_by_lem, names_own, no_parameters, side_at, side_by, ForAll, held_at, held_by_all}
 use Rattle.values_queues_laws.proofs.{Operands.numbers, Parameters.parameters_are}
 use mathlib.Core.Bool.{◌&&◌}
 use mathlib.Core.List.{◌++◌}
 use Rattle.layout.specs.Represents.{small_block}
-use Rattle.evaluation.specs.Evaluation.{Worth}
 
 -- ---- By an answer for all
 
@@ -67,14 +66,17 @@ module _ {tables : List ℕ} {values : ℕ} {tally : List ℕ} {clock at : ℕ} 
 
   pub for-all_bits : names_own tables at ≡ false → (z : ℤ) → mag z < 2147483648 → z ≡ term_at tables tally values clock no_parameters at
       → (n : ℕ)
-      → n ≡ low32 (to_z w32 (of_z w32 z))
+      → n ≡ low32 z
       → ForAll tables values tally clock at n
   for-all_bits e z small is n bits =
-      let same : n ≡ low32 z = bits ∙ ap low32 (back z small) in
       record {
-        given = lt-ltb n 4294967296 (omega (arith, same, low32-lt z)) ∙ ap not (sym e);
-        worth = λ f. ap signed same ∙ signed_low z small ∙ is;
+        given = lt-ltb n 4294967296 (omega (arith, bits, low32-lt z)) ∙ ap not (sym e);
+        worth = λ f. ap signed bits ∙ signed_low z small ∙ is;
       }
+
+-- the bits of a number as they are handed on
+pub bits-of : {n : ℕ} (z : ℤ) → mag z < 2147483648 → n ≡ of_z w32 (to_z w32 (of_z w32 z)) → n ≡ low32 z
+bits-of {n} z small e = e ∙ rw (back z small) (cast-unsigned-is z (record { sfits = small }))
 
 -- the answer for the last block serves again at the same block
 pub for-all-same : {tables : List ℕ} {values : ℕ} {tally : List ℕ} {clock seen at known : ℕ} → seen ≡ at
@@ -122,7 +124,7 @@ pub parameter-term : (tables tally : List ℕ) (values clock : ℕ) (p : List �
     → term_at tables tally values clock p at ≡ signed (get_or p (get_or tables (at + 1) 0) 0)
 unfolding term_at simple_term
 parameter-term tables tally values clock p at e =
-    ap (λ (x : Worth). x.worth) (term_simple tables _ _ at inside 2 _ (sym e) refl 0 (lit< tt))
+    rw (term_at, term_simple tables (simple_term tables tally clock p) (value_below tables (simple_term tables tally clock p) values) at inside 2 _ (sym e) refl 0 (lit< tt))
   where
     inside : at < length tables
     inside = go (ltb at (length tables)) refl

@@ -1,6 +1,6 @@
 -- The row machine: a side of a comparison, for those that wait on it. One that names no parameter is worth the same to all.
 use Rattle.machine.specs.All.{ℕ, Bool, true, false, cond, not, List, ltb, eqb, get_or, replicate, signed}
-use Rattle.std.specs.Prelude.{ℤ, ◌+◌, ◌≡◌}
+use Rattle.std.specs.Prelude.{ℤ, ◌+◌, ◌≡◌, Option, Some, None}
 use Rattle.layout.specs.Layout as Layout
 use Rattle.evaluation.specs.Evaluation.{term_at}
 use Rattle.values_queues_laws.specs.Comparison.{parameters_at}
@@ -16,6 +16,11 @@ names_own tables at =
 -- any parameters, as bits
 abbrev pub no_parameters : List ℕ
 no_parameters = replicate 4 0
+
+-- the number of an answer for all: its bits, or 2 to the 32 where there is none
+abbrev pub answer_number : Option ℕ → ℕ
+answer_number None = 4294967296
+answer_number (Some n) = n
 
 module _ (tables : List ℕ) (values : ℕ) (tally : List ℕ) (clock : ℕ) where
   -- what the term at `at` is worth to row k

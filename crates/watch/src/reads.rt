@@ -3,9 +3,9 @@ ghost use Rattle.std.specs.Prelude.{◌≡◌, ◌<◌, ◌≤◌};
 ghost use Rattle.machine.specs.All.{max_blocks, max_values};
 ghost use Rattle.watch.specs.Watch.{reach_value, reach, wait_marks, waits_marks, own_of, changed_cell, asked_of, own_stored, asked_stored, watched};
 
-use crate::walk::{CLOCK, MARKS, OWN, QUEUES, SERVERS, VALUES, store, terms};
-use constants::kinds::WAIT_TERMS;
-use layout::{ASKED, BLOCK_WIDTH, CLOCK_ASKED, NAMES_OWN, VALUE_WIDTH, number};
+use crate::walk::{CLOCK, MARKS, OWN, QUEUES, SERVERS, VALUES, terms};
+use constants::Kind;
+use layout::{ASKED, BLOCK_WIDTH, CLOCK_ASKED, FIRST, NAMES_OWN, VALUE_WIDTH, number, store};
 
 // The terms of value k, if it is marked. No more brackets open than it has numbers.
 fn reach_value(tables: &[u32], marks: &mut [u32], k: usize)
@@ -25,9 +25,7 @@ fn reach(tables: &[u32], marks: &mut [u32], values: usize)
     requires { values ≤ max_values }
     ensures { marks.new ≡ reach tables.now values marks.old }
 {
-    let mut k = values;
-    while 0 < k {
-        k -= 1;
+    for k in (0..values).rev() {
         reach_value(tables, marks, k);
     }
 }
@@ -38,7 +36,7 @@ fn wait(tables: &[u32], marks: &mut [u32], values: usize, b: usize)
     ensures { marks.new ≡ wait_marks tables.now values b marks.old }
 {
     let at = BLOCK_WIDTH * b;
-    if number(tables, at) != WAIT_TERMS {
+    if number(tables, at) != Kind::WaitTerms.number() {
         return;
     }
     terms(tables, marks, values, BLOCK_WIDTH, 1, 2, at);
@@ -48,10 +46,8 @@ fn waits(tables: &[u32], marks: &mut [u32], values: usize, blocks: usize)
     requires { blocks ≤ max_blocks }
     ensures { marks.new ≡ waits_marks tables.now values blocks marks.old }
 {
-    let mut b = 0;
-    while b < blocks {
+    for b in 0..blocks {
         wait(tables, marks, values, b);
-        b += 1;
     }
 }
 
@@ -73,21 +69,20 @@ fn changed(tables: &[u32], b: usize) -> usize
     ensures { result ≡ changed_cell tables.now b }
 {
     let at = BLOCK_WIDTH * b;
-    let n = number(tables, at + 1) as usize;
-    match number(tables, at) {
-        4 => SERVERS + n % 64,
-        5 => SERVERS + n % 64,
-        6 => SERVERS + n % 64,
-        7 => SERVERS + n % 64,
-        15 => QUEUES + n % 32,
-        16 => QUEUES + n % 32,
-        19 => SERVERS + n % 64,
-        20 => SERVERS + n % 64,
+    let n = number(tables, at + FIRST) as usize;
+    let Some(kind) = Kind::of(number(tables, at)) else {
+        return b;
+    };
+    match kind {
+        Kind::Seize | Kind::Release | Kind::Enter | Kind::Leave => SERVERS + n % 64,
+        Kind::Preempt | Kind::Return => SERVERS + n % 64,
+        Kind::Arrive | Kind::Depart => QUEUES + n % 32,
         _ => b,
     }
 }
 
-// Is a WAITIF asked again after block b?
+// Is a WAITIF asked again after block b? 0 for no.
+// kept: the number of a mark and no `bool`, since the definition hands on the mark that stands.
 fn asked(tables: &[u32], marks: &[u32], b: usize) -> u32
     requires { b < max_blocks }
     ensures { result ≡ asked_of tables.now marks.now b }
@@ -102,11 +97,9 @@ fn store_own(tables: &mut [u32], values: usize)
     requires { values ≤ max_values }
     ensures { tables.new ≡ own_stored values values tables.old }
 {
-    let mut k = 0;
-    while k < values {
+    for k in 0..values {
         let x = names_own(tables, values, k);
         store(tables, NAMES_OWN + k, x);
-        k += 1;
     }
 }
 
@@ -114,11 +107,9 @@ fn store_asked(tables: &mut [u32], marks: &[u32], blocks: usize)
     requires { blocks ≤ max_blocks }
     ensures { tables.new ≡ asked_stored marks.now blocks tables.old }
 {
-    let mut b = 0;
-    while b < blocks {
+    for b in 0..blocks {
         let x = asked(tables, marks, b);
         store(tables, ASKED + b, x);
-        b += 1;
     }
 }
 

@@ -1,9 +1,10 @@
 // The things that terms name, marked one by one. Sums and terms call each other: bracket depth and remaining terms fall.
 ghost use Rattle.std.specs.Prelude.{◌≡◌, ◌≤◌};
 ghost use Rattle.machine.specs.All.{set};
+ghost use Rattle.layout.specs.Tags.{tag_number};
 ghost use Rattle.watch.specs.Walk.{cell_of, walked, terms_from, term_from};
 
-use layout::{TERM_WIDTH, number};
+use layout::{TERM_WIDTH, Tag, number, store};
 
 // Entries of block b (from 0) at b; then queues, servers and values.
 pub const QUEUES: usize = 256;
@@ -24,49 +25,27 @@ pub const MARKS: usize = 363;
 
 const COMPARISON_TAG: u32 = layout::COMPARISON_TAG as u32;
 
-const VALUE_TAG: u32 = layout::VALUE_TAG as u32;
-
-// Stores a number at an index; nothing past the end.
-pub fn store(l: &mut [u32], at: usize, x: u32)
-    ensures { l.new ≡ set l.old at x }
-{
-    if at < l.len() {
-        l[at] = x;
-    }
-}
-
 // The cell of what a term of tags 0 to 9 names, where the first `lower` values may be named.
-fn cell(lower: usize, tag: u32, n: u32) -> usize
-    ensures { result ≡ cell_of lower tag n }
+fn cell(lower: usize, tag: Tag, n: u32) -> usize
+    ensures { result ≡ cell_of lower (tag_number tag) n }
 {
     let i = n as usize;
-    if tag < 2 {
-        return NOTHING;
+    match tag {
+        Tag::Constant | Tag::MinusConstant => NOTHING,
+        Tag::Parameter => OWN,
+        Tag::Clock => CLOCK,
+        Tag::Entries => i % 256,
+        Tag::Content => QUEUES + i % 32,
+        Tag::UnitsInUse | Tag::UnitsFree | Tag::FacilityInUse => SERVERS + i % 64,
+        Tag::Value | Tag::Comparison | Tag::Bracket => {
+            if i < lower { VALUES + i % 8 } else { NOTHING }
+        }
     }
-    if tag == 2 {
-        return OWN;
-    }
-    if tag == 3 {
-        return CLOCK;
-    }
-    if tag == 4 {
-        return i % 256;
-    }
-    if tag == 5 {
-        return QUEUES + i % 32;
-    }
-    if tag < VALUE_TAG {
-        return SERVERS + i % 64;
-    }
-    if i < lower {
-        return VALUES + i % 8;
-    }
-    NOTHING
 }
 
 // Marks what a term of tags 0 to 9 names.
-fn mark(marks: &mut [u32], lower: usize, tag: u32, n: u32)
-    ensures { marks.new ≡ set marks.old (cell_of lower tag n) 1 }
+fn mark(marks: &mut [u32], lower: usize, tag: Tag, n: u32)
+    ensures { marks.new ≡ set marks.old (cell_of lower (tag_number tag) n) 1 }
 {
     store(marks, cell(lower, tag, n), 1);
 }
@@ -82,16 +61,16 @@ fn term(tables: &[u32], marks: &mut [u32], lower: usize, depth: usize, at: usize
     let tag = number(tables, at);
     let n = number(tables, at + 1);
     if tag < COMPARISON_TAG {
-        mark(marks, lower, tag, n);
+        mark(marks, lower, Tag::of(tag), n);
         return at + TERM_WIDTH;
     }
     if depth == 0 {
-        return at + 2;
+        return at + TERM_WIDTH;
     }
     if tag == COMPARISON_TAG {
-        return terms(tables, marks, lower, depth - 1, 0, 2, at + 2);
+        return terms(tables, marks, lower, depth - 1, 0, 2, at + TERM_WIDTH);
     }
-    terms(tables, marks, lower, depth - 1, 1, n, at + 2)
+    terms(tables, marks, lower, depth - 1, 1, n, at + TERM_WIDTH)
 }
 
 // So many terms from a position on, each behind `skip` numbers.

@@ -1,16 +1,12 @@
--- `covrith_columns` meets its contract: the answer of `to_columns`, case by case.
+-- `covrith_columns` meets its contract: the answer of `to_columns`, as numbers.
 use Rattle.machine.specs.All.{arith}
-use Rattle.covrith.proofs.Records.{wrote-bytes, wrote-nothing}
+use Rattle.covrith.proofs.Records.{told-written}
 use Rattle.covrith.proofs.covrith_columns.Goals as goal
 
-pub returns-in-Bytes-clause-value : goal.returns-in-Bytes-clause-value
-returns-in-Bytes-clause-value c = (wrote-bytes c.to_columns.new.out c.to_columns.ensures.result_after _ c.in-Bytes.is (omega (arith, c.to_columns.ensures.count _ c.in-Bytes.is, c.to_columns.auto.out))).0
+pub returns-clause-value : goal.returns-clause-value
+returns-clause-value c =
+    (told-written c.to_columns.new.out c.to_columns.result c.to_columns.ensures.result_after (λ n h. omega (arith, c.to_columns.ensures.count n h, c.to_columns.auto.out)) c.told.ensures).0
 
-pub returns-in-Bytes-clause-written_after : goal.returns-in-Bytes-clause-written_after
-returns-in-Bytes-clause-written_after c = (wrote-bytes c.to_columns.new.out c.to_columns.ensures.result_after _ c.in-Bytes.is (omega (arith, c.to_columns.ensures.count _ c.in-Bytes.is, c.to_columns.auto.out))).1
-
-pub returns-in-Refused-clause-value : goal.returns-in-Refused-clause-value
-returns-in-Refused-clause-value c = (wrote-nothing c.to_columns.new.out c.to_columns.ensures.result_after _ c.in-Refused.is).0
-
-pub returns-in-Refused-clause-written_after : goal.returns-in-Refused-clause-written_after
-returns-in-Refused-clause-written_after c = (wrote-nothing c.to_columns.new.out c.to_columns.ensures.result_after _ c.in-Refused.is).1
+pub returns-clause-written_after : goal.returns-clause-written_after
+returns-clause-written_after c =
+    (told-written c.to_columns.new.out c.to_columns.result c.to_columns.ensures.result_after (λ n h. omega (arith, c.to_columns.ensures.count n h, c.to_columns.auto.out)) c.told.ensures).1

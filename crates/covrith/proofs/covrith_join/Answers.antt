@@ -1,15 +1,16 @@
 -- `covrith_join` meets its contract: the answer of `join`, case by case.
+use Rattle.machine.specs.All.{◌∙◌}
 use Rattle.covrith.proofs.Joins.{joined-bytes, joined-nothing}
 use Rattle.covrith.proofs.covrith_join.Goals as goal
 
-pub returns-in-Bytes-clause-value : goal.returns-in-Bytes-clause-value
-returns-in-Bytes-clause-value c = (joined-bytes _ _ c.join.ensures.answered _ _ c.in-Bytes.is).0
+pub returns-in-Ok-clause-value : goal.returns-in-Ok-clause-value
+returns-in-Ok-clause-value c = (joined-bytes _ _ c.join.ensures.answered _ _ c.in-Ok.is).0
 
-pub returns-in-Bytes-clause-lengths_after : goal.returns-in-Bytes-clause-lengths_after
-returns-in-Bytes-clause-lengths_after c = (joined-bytes _ _ c.join.ensures.answered _ _ c.in-Bytes.is).1
+pub returns-in-Ok-clause-lengths_after : goal.returns-in-Ok-clause-lengths_after
+returns-in-Ok-clause-lengths_after c = (joined-bytes _ _ c.join.ensures.answered _ _ c.in-Ok.is).1
 
-pub returns-in-Refused-clause-value : goal.returns-in-Refused-clause-value
-returns-in-Refused-clause-value c = (joined-nothing _ _ c.join.ensures.answered _ c.in-Refused.is).0
+pub returns-in-Err-clause-value : goal.returns-in-Err-clause-value
+returns-in-Err-clause-value c = c.number.ensures ∙ (joined-nothing _ _ c.join.ensures.answered _ c.in-Err.is).0
 
-pub returns-in-Refused-clause-lengths_after : goal.returns-in-Refused-clause-lengths_after
-returns-in-Refused-clause-lengths_after c = (joined-nothing _ _ c.join.ensures.answered _ c.in-Refused.is).1
+pub returns-in-Err-clause-lengths_after : goal.returns-in-Err-clause-lengths_after
+returns-in-Err-clause-lengths_after c = (joined-nothing _ _ c.join.ensures.answered _ c.in-Err.is).1

@@ -1,24 +1,16 @@
--- `decode::model` meets its contract: the three parts of the model.
+-- `model` meets its contract: the three parts of the model.
+use Rattle.machine.specs.All.{refl}
+use Rattle.decode.proofs.Stages.{stage-passed}
 use Rattle.decode.proofs.Models.{model-stop, model-stop-2, model-kept}
 use Rattle.decode.proofs.model.Goals as goal
 
-pub things-requires : goal.things-requires
-things-requires c =
-    c.servers.ensures.within _ _ c.in-Read.is
+pub returns-in_err-a : goal.returns-in_err-a
+returns-in_err-a c = stage-passed c.from_residual.ensures.1 (model-stop _ c.in_err-a.ensures.stage _ refl)
 
-pub program-requires : goal.program-requires
-program-requires c =
-    c.things.ensures.within _ _ c.in-Read-things.is
+pub returns-in_err-b : goal.returns-in_err-b
+returns-in_err-b c =
+    stage-passed c.from_residual-in_err-b.ensures.1
+    (model-stop-2 _ c.in_ok-a.ensures.stage refl c.in_err-b.ensures.stage _ refl)
 
-pub returns-in-Refused : goal.returns-in-Refused
-returns-in-Refused c =
-    model-stop _ c.servers.ensures.stage _ c.in-Refused.is
-
-pub returns-in-Refused-things : goal.returns-in-Refused-things
-returns-in-Refused-things c =
-    model-stop-2 _ c.servers.ensures.stage c.in-Read.is c.things.ensures.stage _ c.in-Refused-things.is
-
-pub returns-in-Read-things : goal.returns-in-Read-things
-returns-in-Read-things c =
-    model-kept _ c.servers.ensures.stage c.in-Read.is c.things.ensures.stage c.in-Read-things.is
-    c.program.ensures
+pub returns : goal.returns
+returns c = model-kept _ c.in_ok-a.ensures.stage refl c.in_ok-b.ensures.stage refl c.program.ensures

@@ -1,67 +1,28 @@
--- `decode::things` meets its contract: three parts, one after the other.
+-- `things` meets its contract: three parts, one after the other.
 use Rattle.machine.specs.All.{refl}
 use Rattle.parse_values.proofs.Binds.{takes-stop, takes_bind}
-use Rattle.parse_values.specs.Shapes.{Within}
 use Rattle.decode.specs.{Stage, things_field}
-use Rattle.decode.proofs.Stages.{things-stop, things-kept, no_header, same-header}
+use Rattle.decode.proofs.Stages.{stage-passed, things-stop, things-kept}
 use Rattle.decode.proofs.things.Goals as goal
 
-pub values-requires : goal.values-requires
-values-requires c =
-    let w = c.requires in
-    let n = c.number-in-Number.ensures.range _ _ c.in-Number-number.is in
-    record {
-      facilities = w.facilities;
-      storages = w.storages;
-      queues = (c.number.ensures.range _ _ c.in-Number.is).1;
-      values = n.1;
-      lists = w.lists;
-      blocks = w.blocks;
-    }
-
-pub returns-in-Refused : goal.returns-in-Refused
+pub returns-in_err-queues-clause-stage : goal.returns-in_err-queues-clause-stage
 unfolding things_field
-returns-in-Refused c =
-    record {
-      stage = takes-stop (Stage _ _ _ _ _ _) _ _ c.number.ensures.takes c.in-Refused.is (record { held = refl });
-      within = λ h q e.
-          absurd (no_header e);
-    }
+returns-in_err-queues-clause-stage c =
+    stage-passed c.from_residual.ensures.1
+    (takes-stop (Stage _ _ _ _ _ _) _ _ c.in_err-queues.ensures.takes refl (record { held = refl }))
 
-pub returns-in-Refused-number : goal.returns-in-Refused-number
+pub returns-in_err-value_count-clause-stage : goal.returns-in_err-value_count-clause-stage
 unfolding things_field
-returns-in-Refused-number c =
-    record {
-      stage = takes_bind (Stage _ _ _ _ _ _) _ _ c.number.ensures.takes c.in-Number.is
-          (λ n₁ c₁ f₁. takes-stop (Stage _ _ _ _ _ _) _ _ c.number-in-Number.ensures.takes c.in-Refused-number.is
-          (record { held = refl }));
-      within = λ h q e. absurd (no_header e);
-    }
+returns-in_err-value_count-clause-stage c =
+    stage-passed c.from_residual-in_err-value_count.ensures.1
+    (takes_bind (Stage _ _ _ _ _ _) _ _ c.in_ok-queues.ensures.takes refl
+    (λ n₁ c₁ f₁. takes-stop (Stage _ _ _ _ _ _) _ _ c.in_err-value_count.ensures.takes refl (record { held = refl })))
 
-pub returns-in-Refused-values : goal.returns-in-Refused-values
-returns-in-Refused-values c =
-    record {
-      stage = things-stop _ _ c.number.ensures.takes c.in-Number.is c.number-in-Number.ensures.takes
-          c.in-Number-number.is
-          c.values.ensures c.in-Refused-values.is;
-      within = λ h q e. absurd (no_header e);
-    }
+pub returns-in_err-q-clause-stage : goal.returns-in_err-q-clause-stage
+returns-in_err-q-clause-stage c =
+    stage-passed c.from_residual-in_err-q.ensures.1
+    (things-stop _ _ c.in_ok-queues.ensures.takes refl c.in_ok-value_count.ensures.takes refl c.in_err-q.ensures refl)
 
-pub returns-in-Done : goal.returns-in-Done
-returns-in-Done c =
-    let w = c.requires in
-    let f = c.number.ensures.range _ _ c.in-Number.is in
-    let n = c.number-in-Number.ensures.range _ _ c.in-Number-number.is in record {
-      stage = things-kept _ _ c.number.ensures.takes c.in-Number.is c.number-in-Number.ensures.takes
-          c.in-Number-number.is
-          c.values.ensures c.in-Done.is;
-      within = λ h q e. same-header Within
-          (record {
-            facilities = w.facilities;
-            storages = w.storages;
-            queues = f.1;
-            values = n.1;
-            lists = w.lists;
-            blocks = w.blocks;
-          }) e;
-    }
+pub returns-clause-stage : goal.returns-clause-stage
+returns-clause-stage c =
+    things-kept _ _ c.in_ok-queues.ensures.takes refl c.in_ok-value_count.ensures.takes refl c.in_ok-q.ensures refl

@@ -1,11 +1,10 @@
--- `decode::validate` meets its contract: the number of what `decode` answers.
+-- `validate` meets its contract: the number of what `decode` answers.
+use Rattle.machine.specs.All.{refl, ◌∙◌}
 use Rattle.decode.proofs.Answers.{refusal-of}
 use Rattle.decode.proofs.validate.Goals as goal
 
-pub returns-in-Refused : goal.returns-in-Refused
-returns-in-Refused c =
-    (refusal-of _ _ _ _ _ c.decode.ensures).0 _ c.in-Refused.is
+pub returns-in-Err : goal.returns-in-Err
+returns-in-Err c = c.number.ensures ∙ (refusal-of _ _ _ _ _ c.in-Err.ensures).0 _ refl
 
-pub returns-in-Model : goal.returns-in-Model
-returns-in-Model c =
-    (refusal-of _ _ _ _ _ c.decode.ensures).1 _ c.in-Model.is
+pub returns-in-Ok : goal.returns-in-Ok
+returns-in-Ok c = (refusal-of _ _ _ _ _ c.in-Ok.ensures).1 _ refl

@@ -1,5 +1,5 @@
 -- `join::joined_model` meets its contract: the room it keeps suffices.
-use Rattle.machine.specs.All.{ℕ, length-replicate}
+use Rattle.machine.specs.All.{ℕ, sym, ap, ◌∙◌, ◌++◌, drop, length-replicate, length-take-le}
 use Rattle.join.proofs.Outputs.{model-left, model-copied, copy-room}
 use Rattle.join_laws.specs.Whole.{kept_room}
 use Rattle.join.proofs.joined_model.Goals as goal
@@ -8,14 +8,24 @@ pub returns-then-out-bytes : goal.returns-then-out-bytes
 returns-then-out-bytes c =
     let both =
     model-left _ _ c.args.out.now _ _ c.model-bytes.ensures
-    (length-replicate {A = ℕ} kept_room 0) c.requires.1 c.if-out-bytes.true in
+    (length-replicate {A = ℕ} kept_room 0) c.requires c.if-out-bytes.true in
     record { value = both.0; stored = both.1 }
 
-pub copy-requires : goal.copy-requires
-copy-requires c =
-    copy-room _ _ c.args.out.now _ _
-    c.model-bytes.ensures (length-replicate {A = ℕ} kept_room 0)
-    c.requires.1 c.if-out-bytes.false
+pub slice_bounds-room-end : goal.slice_bounds-room-end
+slice_bounds-room-end c =
+    (copy-room _ _ c.args.out.now _ _ c.model-bytes.ensures (length-replicate {A = ℕ} kept_room 0) c.requires c.if-out-bytes.false).0
+
+pub slice_bounds-copy_from_slice-end-3 : goal.slice_bounds-copy_from_slice-end-3
+slice_bounds-copy_from_slice-end-3 c =
+    let room = copy-room _ _ c.args.out.now _ _ c.model-bytes.ensures (length-replicate {A = ℕ} kept_room 0) c.requires
+    c.if-out-bytes.false in
+    sym (length-take-le _ c.model-bytes.new.out room.0)
+
+pub copy_from_slice-requires : goal.copy_from_slice-requires
+copy_from_slice-requires c =
+    let room = copy-room _ _ c.args.out.now _ _ c.model-bytes.ensures (length-replicate {A = ℕ} kept_room 0) c.requires
+    c.if-out-bytes.false in
+    length-take-le _ c.args.out.now c.if-out-bytes.false ∙ sym (length-take-le _ c.model-bytes.new.out room.0)
 
 pub returns : goal.returns
 returns c =
@@ -23,6 +33,7 @@ returns c =
     model-copied _ _
     c.args.out.now _ _
     c.model-bytes.ensures (length-replicate {A = ℕ} kept_room 0)
-    c.requires.1 _
-    c.if-out-bytes.false c.copy.ensures in
+    c.requires _
+    c.if-out-bytes.false
+    (ap (λ l. l ++ drop c.model-bytes.result c.args.out.now) c.copy_from_slice.ensures.after) in
     record { value = both.0; stored = both.1 }

@@ -5,4 +5,12 @@ use Rattle.moves.proofs.go_back.Goals as goal
 pub returns : goal.returns
 unfolding go_back
 returns c =
-    rw (c.set_returning.ensures, c.write.ensures, c.less32-next.ensures, c.read.ensures)
+    rw (
+      c.set_returning.ensures,
+      c.write.ensures,
+      c.saturating_sub-next.ensures,
+      c.read.ensures,
+      c.row-row.ensures,
+      c.of-y.ensures,
+      c.scalars-y.ensures.same,
+    )

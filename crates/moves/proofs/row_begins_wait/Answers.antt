@@ -5,4 +5,4 @@ use Rattle.moves.proofs.row_begins_wait.Goals as goal
 pub returns : goal.returns
 unfolding with_outcome begin_wait
 returns c =
-    λ x e f. rw (e, f, c.line_up.ensures, c.write.ensures, c.plus32.ensures)
+    λ x e f. rw (e, f, c.line_up.ensures, c.write.ensures, c.saturating_add.ensures)

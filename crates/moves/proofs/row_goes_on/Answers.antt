@@ -8,4 +8,4 @@ pub returns : goal.returns
 unfolding go_on_lem
 returns c =
     λ x e.
-    rw e (c.row_goes_to.ensures _ refl ∙ ap (go_to _ _) (c.plus32-next.ensures ∙ ap next32 c.read.ensures))
+    rw e (c.row_goes_to.ensures _ refl ∙ ap (go_to _ _) (c.saturating_add-next.ensures ∙ ap next32 c.read.ensures))

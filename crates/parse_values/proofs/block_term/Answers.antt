@@ -1,17 +1,16 @@
--- `values::block_term` meets its contract: a tag, its range, and the number after it.
-use Rattle.parse_values.proofs.Steps.{block-stop, block-stop-2, block_read}
+-- `block_term` meets its contract: a tag, its range, and the number after it.
+use Rattle.machine.specs.All.{refl}
+use Rattle.parse_values.proofs.{Binds.stores-passed, Steps.block-stop, Steps.block-stop-2, Steps.block_read}
 use Rattle.parse_values.proofs.block_term.Goals as goal
 
-pub returns-in-Refused : goal.returns-in-Refused
-returns-in-Refused c =
-    block-stop _ _ c.keep.ensures.takes _ c.in-Refused.is
+pub returns-in_err-tag : goal.returns-in_err-tag
+returns-in_err-tag c = stores-passed c.from_residual.ensures.1 (block-stop _ _ c.in_err-tag.ensures.takes _ refl)
 
-pub returns-in-Refused-keep : goal.returns-in-Refused-keep
-returns-in-Refused-keep c =
-    block-stop-2 _ _ c.keep.ensures.takes c.in-Number.is
-    (rw c.term_range-range.ensures.value at c.keep-in-Number.ensures.takes) c.in-Refused-keep.is
+pub returns-in_err-after : goal.returns-in_err-after
+returns-in_err-after c =
+    stores-passed c.from_residual-in_err-after.ensures.1
+    (block-stop-2 _ _ c.in_ok-tag.ensures.takes refl (rw c.term_range-range.ensures.value at c.in_err-after.ensures.takes) refl)
 
-pub returns-in-Number-keep : goal.returns-in-Number-keep
-returns-in-Number-keep c =
-    block_read _ _ c.keep.ensures.takes c.in-Number.is
-    (rw c.term_range-range.ensures.value at c.keep-in-Number.ensures.takes) c.in-Number-keep.is
+pub returns : goal.returns
+returns c =
+    block_read _ _ c.in_ok-tag.ensures.takes refl (rw c.term_range-range.ensures.value at c.in_ok-after.ensures.takes) refl

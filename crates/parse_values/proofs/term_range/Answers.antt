@@ -1,93 +1,79 @@
--- `values::term_range` meets its contract: each arm is a line of `range_of`.
-use Rattle.machine.specs.All.{arith, ne_eqb}
+-- `term_range` meets its contract: each tag is a line of `range_of`, and all from 9 on are the last.
+use Rattle.machine.specs.All.{◌≤◌, ◌≡◌, arith, inl, inr, ne_eqb}
+use Rattle.layout.specs.Tags.{tag_number}
 use Rattle.parse_values.specs.{range_of}
 use Rattle.parse_values.proofs.term_range.Goals as goal
 
-pub returns-in-0 : goal.returns-in-0
+pub returns-in-Parameter-clause-value : goal.returns-in-Parameter-clause-value
 unfolding range_of
-returns-in-0 c =
-    record {
-      value = rw c.in-0.is;
-      fits = omega arith;
-    }
+returns-in-Parameter-clause-value c =
+    let most : c.min.result ≤ 11 = omega (arith, c.min.ensures) in
+    let e : c.args.tag ≡ 2 = omega (arith, c.min.ensures, c.in-Parameter.ensures.known most) in
+    rw e
 
-pub returns-in-1 : goal.returns-in-1
+pub returns-in-Clock-clause-value : goal.returns-in-Clock-clause-value
 unfolding range_of
-returns-in-1 c =
-    record {
-      value = rw c.in-1.is;
-      fits = omega arith;
-    }
+returns-in-Clock-clause-value c =
+    let most : c.min.result ≤ 11 = omega (arith, c.min.ensures) in
+    let e : c.args.tag ≡ 3 = omega (arith, c.min.ensures, c.in-Clock.ensures.known most) in
+    rw e
 
-pub returns-in-2 : goal.returns-in-2
+pub returns-in-Entries-clause-value : goal.returns-in-Entries-clause-value
 unfolding range_of
-returns-in-2 c =
-    record {
-      value = rw c.in-2.is;
-      fits = omega arith;
-    }
+returns-in-Entries-clause-value c =
+    let most : c.min.result ≤ 11 = omega (arith, c.min.ensures) in
+    let e : c.args.tag ≡ 4 = omega (arith, c.min.ensures, c.in-Entries.ensures.known most) in
+    rw e
 
-pub returns-in-3 : goal.returns-in-3
+pub returns-in-Content-clause-value : goal.returns-in-Content-clause-value
 unfolding range_of
-returns-in-3 c =
-    record {
-      value = rw c.in-3.is;
-      fits = omega arith;
-    }
+returns-in-Content-clause-value c =
+    let most : c.min.result ≤ 11 = omega (arith, c.min.ensures) in
+    let e : c.args.tag ≡ 5 = omega (arith, c.min.ensures, c.in-Content.ensures.known most) in
+    rw e
 
-pub returns-in-4 : goal.returns-in-4
+pub returns-in-FacilityInUse-clause-value : goal.returns-in-FacilityInUse-clause-value
 unfolding range_of
-returns-in-4 c =
-    record {
-      value = rw c.in-4.is;
-      fits = omega arith;
-    }
+returns-in-FacilityInUse-clause-value c =
+    let most : c.min.result ≤ 11 = omega (arith, c.min.ensures) in
+    let e : c.args.tag ≡ 8 = omega (arith, c.min.ensures, c.in-FacilityInUse.ensures.known most) in
+    rw e
 
-pub returns-in-5 : goal.returns-in-5
+pub returns-in-Constant-clause-value : goal.returns-in-Constant-clause-value
 unfolding range_of
-returns-in-5 c =
-    record {
-      value = rw c.in-5.is;
-      fits = omega arith;
-    }
+returns-in-Constant-clause-value c =
+    let most : c.min.result ≤ 11 = omega (arith, c.min.ensures) in
+    elim c.in-Constant.is [
+      | inl f ↦ let e : c.args.tag ≡ 0 = omega (arith, c.min.ensures, (rw f at c.of.ensures.known) most) in rw e
+      | inr f ↦ let e : c.args.tag ≡ 1 = omega (arith, c.min.ensures, (rw f at c.of.ensures.known) most) in rw e
+    ]
 
-pub returns-in-6 : goal.returns-in-6
+pub returns-in-UnitsInUse-clause-value : goal.returns-in-UnitsInUse-clause-value
 unfolding range_of
-returns-in-6 c =
-    record {
-      value = rw c.in-6.is;
-      fits = omega arith;
-    }
+returns-in-UnitsInUse-clause-value c =
+    let most : c.min.result ≤ 11 = omega (arith, c.min.ensures) in
+    elim c.in-UnitsInUse.is [
+      | inl f ↦ let e : c.args.tag ≡ 6 = omega (arith, c.min.ensures, (rw f at c.of.ensures.known) most) in rw e
+      | inr f ↦ let e : c.args.tag ≡ 7 = omega (arith, c.min.ensures, (rw f at c.of.ensures.known) most) in rw e
+    ]
 
-pub returns-in-7 : goal.returns-in-7
+pub returns-in-Value-clause-value : goal.returns-in-Value-clause-value
 unfolding range_of
-returns-in-7 c =
-    record {
-      value = rw c.in-7.is;
-      fits = omega arith;
-    }
-
-pub returns-in-8 : goal.returns-in-8
-unfolding range_of
-returns-in-8 c =
-    record {
-      value = rw c.in-8.is;
-      fits = omega arith;
-    }
-
-pub returns-in_default : goal.returns-in_default
-unfolding range_of
-returns-in_default c = record {
-  value = rw (
-    ne_eqb c.args.tag 0 (λ e. omega arith),
-    ne_eqb c.args.tag 1 (λ e. omega arith),
-    ne_eqb c.args.tag 2 (λ e. omega arith),
-    ne_eqb c.args.tag 3 (λ e. omega arith),
-    ne_eqb c.args.tag 4 (λ e. omega arith),
-    ne_eqb c.args.tag 5 (λ e. omega arith),
-    ne_eqb c.args.tag 6 (λ e. omega arith),
-    ne_eqb c.args.tag 7 (λ e. omega arith),
-    ne_eqb c.args.tag 8 (λ e. omega arith),
-  );
-  fits = omega arith;
-}
+returns-in-Value-clause-value c =
+    let most : c.min.result ≤ 11 = omega (arith, c.min.ensures) in
+    let last : 9 ≤ tag_number c.of.result = elim c.in-Value.is [
+      | inl f ↦ rw f (omega arith)
+      | inr g ↦ elim g [ inl f ↦ rw f (omega arith) | inr f ↦ rw f (omega arith) ]
+    ] in
+    let h : 9 ≤ c.args.tag = omega (arith, c.min.ensures, c.of.ensures.known most) in
+    rw (
+      ne_eqb c.args.tag 0 (λ e. omega arith),
+      ne_eqb c.args.tag 1 (λ e. omega arith),
+      ne_eqb c.args.tag 2 (λ e. omega arith),
+      ne_eqb c.args.tag 3 (λ e. omega arith),
+      ne_eqb c.args.tag 4 (λ e. omega arith),
+      ne_eqb c.args.tag 5 (λ e. omega arith),
+      ne_eqb c.args.tag 6 (λ e. omega arith),
+      ne_eqb c.args.tag 7 (λ e. omega arith),
+      ne_eqb c.args.tag 8 (λ e. omega arith),
+    )

@@ -1,39 +1,18 @@
--- `values::values` meets its contract. The loop's invariant: the values from k on give what all values give. The measure is what is
--- left of them.
-use Rattle.machine.specs.All.{arith}
-use Rattle.parse_values.proofs.Filled.{from-none, from-stop, from_step, from_all, values-rows}
+-- `values` meets its contract. The loop's invariant: the values from k on give what all values give.
+use Rattle.machine.specs.All.{refl}
+use Rattle.parse_values.proofs.Filled.{rows_passed, from-none, from-stop, from_step, from_all, values-rows}
 use Rattle.parse_values.proofs.values.Goals as goal
 
-pub loop-k-init : goal.loop-k-init
-loop-k-init c = (omega arith, λ after r h. h)
-
-pub value-requires : goal.value-requires
-value-requires c =
-    let w = c.requires in (
-      omega arith,
-      record {
-        facilities = w.facilities;
-        storages = w.storages;
-        queues = w.queues;
-        values = omega arith;
-        lists = omega arith;
-        blocks = omega arith;
-      },
-    )
-
-pub returns-in-Refused : goal.returns-in-Refused
-returns-in-Refused c =
-    rw values-rows
-    (from_all _ _ _ _ _ _
-    (c.loop-k.invariant.1 _ _ (from-stop _ _ _ _ _ _ c.loop-k-test.true c.value.ensures _ c.in-Refused.is)))
+pub returns-in_err-q : goal.returns-in_err-q
+returns-in_err-q c =
+    rows_passed c.from_residual.ensures.1
+    (rw values-rows
+    (from_all _ _ _ _ _ _ (c.loop-k.invariant _ _ (from-stop _ _ _ _ _ _ c.loop-k-test.true c.in_err-q.ensures _ refl))))
 
 pub loop-k-preserved : goal.loop-k-preserved
-loop-k-preserved c = (
-  omega arith,
-  λ after r h. c.loop-k.invariant.1 after r
-      (from_step _ _ _ _ _ _ c.loop-k-test.true c.value.ensures c.in-Done.is (λ a f. f) after r h),
-)
+loop-k-preserved c = λ after r h.
+    c.loop-k.invariant after r (from_step _ _ _ _ _ _ c.loop-k-test.true c.in_ok-q.ensures refl (λ a f. f) after r h)
 
 pub returns : goal.returns
 returns c =
-    rw values-rows (from_all _ _ _ _ _ _ (c.loop-k.invariant.1 _ _ (from-none _ _ _ _ _ _ _ _ _ c.loop-k-test.false)))
+    rw values-rows (from_all _ _ _ _ _ _ (c.loop-k.invariant _ _ (from-none _ _ _ _ _ _ _ _ _ c.loop-k-test.false)))

@@ -34,6 +34,5 @@ returns c =
       ne_eqb _ 0 c.if-preempted-eq0.false,
       ← c.holder.ensures,
       eq-eqb _ _ c.if-holder-number.false,
-      ← c.first.ensures,
     )
-    c.ask_resume.ensures
+    (c.ask_resume.ensures _ (rw c.interrupted.ensures at c.first.ensures))

@@ -3,10 +3,13 @@ use Rattle.machine.specs.All.{lt-ltb, le-ltb}
 use Rattle.preempt_laws.specs.Preempting.{ask_resume}
 use Rattle.preempt.proofs.ask_resume.Goals as goal
 
-pub returns-then-j-ge-ROWS : goal.returns-then-j-ge-ROWS
+pub returns-in-Some : goal.returns-in-Some
 unfolding ask_resume
-returns-then-j-ge-ROWS c = rw (le-ltb _ 1024 c.if-j-ge-ROWS.true)
+returns-in-Some c j is =
+    let row = rw c.in-Some.is at is in
+    rw (row.0, lt-ltb _ 1024 row.1, ← c.time.ensures) c.ask_time.ensures
 
-pub returns : goal.returns
+pub returns-in-None : goal.returns-in-None
 unfolding ask_resume
-returns c = rw (lt-ltb _ 1024 c.if-j-ge-ROWS.false, ← c.time.ensures, ← c.ask_time.ensures)
+returns-in-None c j is =
+    let none = rw c.in-None.is at is in rw (le-ltb _ 1024 none)

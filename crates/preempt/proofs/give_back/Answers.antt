@@ -1,26 +1,25 @@
 -- `give_back` meets its contract, by cases on the question.
-use Rattle.machine.specs.All.{eq-eqb, ne_eqb}
+use Rattle.state.proofs.Ends.{end_eqb}
 use Rattle.preempt_laws.specs.Preempting.{give_back_rows}
 use Rattle.preempt.proofs.give_back.Goals as goal
 
-pub returns-then-end-ne0 : goal.returns-then-end-ne0
+pub returns-in-Err : goal.returns-in-Err
 unfolding give_back_rows
-returns-then-end-ne0 c =
+returns-in-Err c =
+    let number = rw c.row.ensures at c.read-number.ensures in
     rw (
-      ← c.server_at-v.ensures.server,
-      ← c.read-number.ensures,
-      ← c.ask_give_back-end.ensures,
-      ne_eqb _ 0 c.if-end-ne0.true,
+      ← c.server_at-v.ensures,
+      ← number,
       c.stop.ensures,
+      c.scalars-in-Err.ensures.same,
+      ← c.scalars.ensures.same,
+      ← c.in-Err.ensures,
+      end_eqb _,
     )
 
 pub returns : goal.returns
 unfolding give_back_rows
 returns c =
-    rw (
-      ← c.server_at-v.ensures.server,
-      ← c.read-number.ensures,
-      ← c.ask_give_back-end.ensures,
-      eq-eqb _ 0 c.if-end-ne0.false,
-    )
-    c.give_back_now.ensures
+    let number = rw c.row.ensures at c.read-number.ensures in
+    let asked = rw c.scalars.ensures.same at c.in_default.ensures in
+    rw (← c.server_at-v.ensures, ← number, ← asked) c.give_back_now.ensures

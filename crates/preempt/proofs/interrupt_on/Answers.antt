@@ -4,11 +4,4 @@ use Rattle.preempt.proofs.interrupt_on.Goals as goal
 
 pub returns : goal.returns
 unfolding interrupt_on
-returns c =
-    rw (
-      ← c.time.ensures,
-      ← c.less64-left.ensures,
-      c.put.ensures,
-      c.set_time.ensures,
-      c.cancel.ensures,
-    )
+returns c = cc

@@ -1,27 +1,18 @@
 -- `preempt_seized` meets its contract, by cases on the row that loses.
-use Rattle.machine.specs.All.{refl, lt-ltb, le-ltb}
+use Rattle.machine.specs.All.{sym, ap, lt-ltb, le-ltb}
 use Rattle.preempt_laws.specs.Preempting.{preempt_seized}
 use Rattle.preempt.proofs.preempt_seized.Goals as goal
 
-pub returns-then-j-lt-ROWS : goal.returns-then-j-lt-ROWS
+pub returns-in-Some : goal.returns-in-Some
 unfolding preempt_seized
-returns-then-j-lt-ROWS c =
-    rw (
-      ← c.holder-who.ensures,
-      ← c.priority.ensures,
-      ← c.find_loser-j.ensures,
-      lt-ltb _ 1024 c.if-j-lt-ROWS.true,
-    )
-    c.take_over.ensures
+returns-in-Some c =
+    let loser = rw (c.holder-who.ensures, c.priority-below.ensures, c.number.ensures.same, c.row-k.ensures) at c.in-Some.ensures in
+    rw (loser.0, lt-ltb _ 1024 loser.1) c.take_over.ensures
 
 pub returns : goal.returns
 unfolding preempt_seized
 returns c =
-    rw (
-      c.with_outcome.ensures,
-      ← c.holder-who.ensures,
-      ← c.priority.ensures,
-      ← c.find_loser-j.ensures,
-      le-ltb _ 1024 c.if-j-lt-ROWS.false,
-    )
-    (c.take_units-outcome.ensures _ refl refl refl)
+    let same = c.scalars-s.ensures.same in
+    let none = rw (c.holder-who.ensures, c.priority-below.ensures, c.number.ensures.same, c.row-k.ensures) at c.in_default.ensures in
+    rw (c.with_outcome.ensures, same, le-ltb _ 1024 none)
+    (c.take_units-outcome.ensures _ (sym c.row-k.ensures) (sym (ap (λ x. x.serial) same)) (sym (ap (λ x. x.clock) same)))

@@ -5,4 +5,5 @@ use Rattle.preempt.proofs.resume_on.Goals as goal
 pub returns : goal.returns
 unfolding resume_on
 returns c =
-    rw (← c.time.ensures, ← c.plus64-due.ensures, ← c.take_first.ensures.rows) c.to_future.ensures
+    let left = rw c.interrupted.ensures at c.take_first.ensures.rows in
+    rw (← c.time.ensures, ← c.saturating_add-due.ensures, ← left) c.to_future.ensures

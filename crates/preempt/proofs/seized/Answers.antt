@@ -3,10 +3,10 @@ use Rattle.machine.specs.All.{eq-eqb, ne_eqb}
 use Rattle.preempt_laws.specs.Preempting.{seized}
 use Rattle.preempt.proofs.seized.Goals as goal
 
-pub returns-then-preempted-ne0 : goal.returns-then-preempted-ne0
+pub returns-then-preempted-eq0 : goal.returns-then-preempted-eq0
 unfolding seized
-returns-then-preempted-ne0 c = rw (← c.preempted.ensures, ne_eqb _ 0 c.if-preempted-ne0.true)
+returns-then-preempted-eq0 c = rw (← c.preempted.ensures, eq-eqb _ 0 c.if-preempted-eq0.true, ← c.in_use.ensures)
 
-pub returns : goal.returns
+pub returns-else-preempted-eq0 : goal.returns-else-preempted-eq0
 unfolding seized
-returns c = rw (← c.preempted.ensures, eq-eqb _ 0 c.if-preempted-ne0.false, ← c.in_use.ensures)
+returns-else-preempted-eq0 c = rw (← c.preempted.ensures, ne_eqb _ 0 c.if-preempted-eq0.false)

@@ -1,6 +1,6 @@
--- `program::blocks` meets its contract. The loop's invariant: the blocks from b on give what all blocks give, and the capacities stand
--- as they did. The measure is what is left of the blocks.
-use Rattle.machine.specs.All.{◌≤◌, ◌-◌, ◌≡◌, in_force, block_field}
+-- `blocks` meets its contract. The loop's invariant: the blocks from b on give what all blocks give, and the capacities stand
+-- as they did.
+use Rattle.machine.specs.All.{◌≡◌, in_force, block_field}
 use Rattle.parse_values.specs.Shapes.{counts_of}
 use Rattle.program.specs.Formed.{Formed}
 use Rattle.program.specs.{block_shape, capacities_of}
@@ -9,9 +9,6 @@ use Rattle.program.proofs.blocks.Given as goal
 
 abbrev pub invariant-loop-b : goal.invariant-loop-b
 invariant-loop-b l =
-    (l.b ≤ l.m.blocks) × (capacities_of l.m l.tables ≡ capacities_of l.m l.initial.tables)
+    (capacities_of l.m l.tables ≡ capacities_of l.m l.initial.tables)
     × Leads (block_shape l.m.blocks) (Formed l.m.blocks) (λ i. block_field l.s in_force.kinds (counts_of l.m) (capacities_of l.m l.initial.tables)) 8 0
     l.m.blocks l.initial.q l.initial.tables l.b l.q l.tables
-
-abbrev pub decreases-loop-b : goal.decreases-loop-b
-decreases-loop-b l = l.m.blocks - l.b

@@ -1,11 +1,11 @@
--- `program::pair` meets its contract: a number and a number.
+-- `pair` meets its contract: a number and a number.
+use Rattle.machine.specs.All.{refl}
+use Rattle.parse_values.proofs.Binds.{stores-passed}
 use Rattle.program.proofs.Steps.{pair-stop, pair-kept}
 use Rattle.program.proofs.pair.Goals as goal
 
-pub returns-in-Refused : goal.returns-in-Refused
-returns-in-Refused c =
-    pair-stop _ _ _ c.keep.ensures.takes _ c.in-Refused.is
+pub returns-in_err-q : goal.returns-in_err-q
+returns-in_err-q c = stores-passed c.from_residual.ensures.1 (pair-stop _ _ _ c.in_err-q.ensures.takes _ refl)
 
-pub returns-in-Number : goal.returns-in-Number
-returns-in-Number c =
-    pair-kept _ _ _ c.keep.ensures.takes c.in-Number.is c.single.ensures
+pub returns : goal.returns
+returns c = pair-kept _ _ _ c.in_ok-q.ensures.takes refl c.single.ensures

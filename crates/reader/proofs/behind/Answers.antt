@@ -3,14 +3,14 @@ use Rattle.machine.specs.All.{rules}
 use Rattle.reader.specs.Position.{position_behind}
 use Rattle.reader.proofs.behind.Goals as goal
 
-pub returns-in-Taken : goal.returns-in-Taken
+pub returns-in-Ok-Some : goal.returns-in-Ok-Some
 unfolding position_behind
-returns-in-Taken c = search rules
+returns-in-Ok-Some c = search rules
 
-pub returns-in-Refused : goal.returns-in-Refused
+pub returns-in-Ok-None : goal.returns-in-Ok-None
 unfolding position_behind
-returns-in-Refused c = search rules
+returns-in-Ok-None c = search rules
 
-pub returns-in-NoMore : goal.returns-in-NoMore
+pub returns-in-Err : goal.returns-in-Err
 unfolding position_behind
-returns-in-NoMore c = search rules
+returns-in-Err c = search rules

@@ -6,7 +6,7 @@ pub returns : goal.returns
 unfolding start_rows
 returns c =
     rw (
-      ← c.few-blocks.ensures,
+      ← c.min-blocks.ensures,
       ← c.begin_scalars-x.ensures,
       ← c.set_lists.ensures,
       ← c.initialise.ensures,

@@ -5,4 +5,4 @@ use Rattle.start.proofs.begin_scalars.Goals as goal
 pub returns : goal.returns
 unfolding start_scalars
 returns c =
-    rw c.narrow-c.ensures
+    rw (c.narrow-c.ensures, c.none.ensures, c.of.ensures)

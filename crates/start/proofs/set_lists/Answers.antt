@@ -1,18 +1,15 @@
--- `set_lists` meets its contract. The invariant: the first lists are set. The measure: those left.
+-- `set_lists` meets its contract. The invariant: the first lists are set.
 use Rattle.machine.specs.All.{ℕ, refl, ap, ◌∙◌, arith, add-one}
 use Rattle.start.specs.{lists_set}
 use Rattle.start.proofs.set_lists.Goals as goal
 
 pub loop-l-init : goal.loop-l-init
 unfolding lists_set
-loop-l-init c =
-    (refl, (omega arith, refl))
+loop-l-init c = refl
 
 pub loop-l-preserved : goal.loop-l-preserved
 unfolding lists_set
-loop-l-preserved c =
-    (rw add-one (cc (c.set_list.ensures, c.loop-l.invariant.0)), (omega arith, omega arith))
+loop-l-preserved c = rw add-one (cc (c.set_list.ensures, c.loop-l.invariant))
 
 pub returns : goal.returns
-returns c =
-    c.loop-l.invariant.0 ∙ ap (λ (n : ℕ). lists_set n c.args.lists.now c.args.tally.now) (omega arith)
+returns c = c.loop-l.invariant ∙ ap (λ (n : ℕ). lists_set n c.args.lists.now c.args.tally.now) (omega arith)

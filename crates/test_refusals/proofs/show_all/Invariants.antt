@@ -1,9 +1,9 @@
--- The cases left begin within them. The measure is what is left.
-use Rattle.std.proofs.Common.{length, ◌-◌, ◌≤◌}
+-- What is left is no longer than the cases. It is the measure too.
+use Rattle.std.proofs.Common.{length, ◌≤◌}
 use Rattle.test_refusals.proofs.show_all.Given as goal
 
-abbrev pub invariant-loop-at : goal.invariant-loop-at
-invariant-loop-at g l = l.at ≤ length l.cases
+abbrev pub invariant-loop-end : goal.invariant-loop-end
+invariant-loop-end g l = length l.left ≤ length l.cases
 
-abbrev pub decreases-loop-at : goal.decreases-loop-at
-decreases-loop-at g l = length l.cases - l.at
+abbrev pub decreases-loop-end : goal.decreases-loop-end
+decreases-loop-end g l = length l.left

@@ -1,31 +1,59 @@
--- `trace::count_low` meets its contract. The invariant of each of its loops: what was counted and what the bytes from `i` on give are
--- together the count of all. The measure is what is left of the length.
-use Rattle.machine.specs.All.{zero-add, arith}
-use Rattle.trace.proofs.Counting.{counted, counted-all}
+-- `trace::count_low` meets its contract. The invariants: the groups so far are counted, and the bytes so far behind the words.
+use Rattle.machine.specs.All.{◌+◌, ◌≡◌, take, count_low, arith, take_all}
+use Rattle.trace.proofs.Counting.{in_groups, in_groups-more, in_groups-part, in-all, count_low-part, count_low-most, one_more}
 use Rattle.trace.proofs.count_low.Goals as goal
 
-pub loop-i-init : goal.loop-i-init
-loop-i-init c = (omega arith, omega arith, zero-add _)
+pub loop-group-init : goal.loop-group-init
+unfolding in_groups
+loop-group-init c = omega arith
 
-pub loop-i-preserved : goal.loop-i-preserved
-loop-i-preserved c =
-    let call = c.count_128-count.ensures in
-    (omega arith, omega arith, counted _ _ 128 _ call.0 c.loop-i.invariant.2)
+pub overflow_add-count : goal.overflow_add-count
+overflow_add-count c =
+    let first = c.as_chunks.ensures in
+    let second = c.as_chunks-2.ensures in
+    let all = in-all 8 16 c.args.s.now _ _ first.front first.back second.front second.back in
+    omega (
+      arith,
+      all,
+      count_low-most c.args.s.now,
+      in_groups-more _ _ c.loop-group-test.true,
+      in_groups-part (c.loop-group.group-index + 1) c.as_chunks-2.result.0.now,
+    )
 
-pub loop-i-2-preserved : goal.loop-i-2-preserved
-loop-i-2-preserved c =
-    let call = c.count_32-count.ensures in
-    (omega arith, omega arith, counted _ _ 32 _ call.0 c.loop-i-2.invariant.2)
+pub loop-group-preserved : goal.loop-group-preserved
+loop-group-preserved c = omega (arith, in_groups-more _ _ c.loop-group-test.true, c.loop-group.invariant)
 
-pub loop-i-3-preserved : goal.loop-i-3-preserved
-loop-i-3-preserved c =
-    let call = c.count_8-count.ensures in
-    (omega arith, omega arith, counted _ _ 8 _ call.0 c.loop-i-3.invariant.2)
+pub loop-b-init : goal.loop-b-init
+unfolding count_low
+loop-b-init c = omega arith
 
-pub loop-i-4-preserved : goal.loop-i-4-preserved
-loop-i-4-preserved c =
-    let call = c.count_1-count.ensures in
-    (omega arith, omega arith, counted _ _ 1 _ call.0 c.loop-i-4.invariant.2)
+pub overflow_add-count-in-loop-b : goal.overflow_add-count-in-loop-b
+overflow_add-count-in-loop-b c =
+    let first = c.as_chunks.ensures in
+    let second = c.as_chunks-2.ensures in
+    let all = in-all 8 16 c.args.s.now _ _ first.front first.back second.front second.back in
+    let groups : take c.loop-group.group-index c.as_chunks-2.result.0.now ≡ c.as_chunks-2.result.0.now = take_all _ _ (omega arith) in
+    let one = rw groups at c.loop-group.invariant in
+    omega (
+      arith,
+      all,
+      one,
+      c.loop-b.invariant,
+      count_low-most c.args.s.now,
+      one_more _ _ c.loop-b-test.true,
+      count_low-part (c.loop-b.b-index + 1) c.as_chunks.result.1.now,
+    )
+
+pub loop-b-preserved : goal.loop-b-preserved
+loop-b-preserved c = omega (arith, one_more _ _ c.loop-b-test.true, c.loop-b.invariant)
 
 pub returns : goal.returns
-returns c = counted-all _ _ c.loop-i-4-test.false c.loop-i-4.invariant.2
+returns c =
+    let first = c.as_chunks.ensures in
+    let second = c.as_chunks-2.ensures in
+    let all = in-all 8 16 c.args.s.now _ _ first.front first.back second.front second.back in
+    let groups : take c.loop-group.group-index c.as_chunks-2.result.0.now ≡ c.as_chunks-2.result.0.now = take_all _ _ (omega arith) in
+    let ends : take c.loop-b.b-index c.as_chunks.result.1.now ≡ c.as_chunks.result.1.now = take_all _ _ (omega arith) in
+    let one = rw groups at c.loop-group.invariant in
+    let two = rw ends at c.loop-b.invariant in
+    omega (arith, all, one, two)

@@ -1,12 +1,12 @@
 -- `trace::put_record` meets its contract: four numbers put one after the other are the record stored at once.
 use Rattle.machine.specs.All.{arith, ◌++◌, length-append, number_bytes, record_bytes}
-use Rattle.trace.specs.{entry}
+use Rattle.trace.specs.{entry_of}
 use Rattle.trace.proofs.Writer.{record_bytes-length, small, stored-behind}
 use Rattle.trace.proofs.put_record.Goals as goal
 
 pub put_number-p1-requires : goal.put_number-p1-requires
 put_number-p1-requires c =
-    let r = entry _ _ _ _ in
+    let r = entry_of c.args.r in
     record {
       v_le_five_groups = (small r c.requires.outcome_value).clock;
       v_in_bounds = omega (arith, record_bytes-length r);
@@ -14,7 +14,7 @@ put_number-p1-requires c =
 
 pub put_number-p2-requires : goal.put_number-p2-requires
 put_number-p2-requires c =
-    let r = entry _ _ _ _ in
+    let r = entry_of c.args.r in
     record {
       v_le_five_groups = (small r c.requires.outcome_value).transaction;
       v_in_bounds = omega (arith, c.requires.outcome_in_bounds, record_bytes-length r);
@@ -22,7 +22,7 @@ put_number-p2-requires c =
 
 pub put_number-p3-requires : goal.put_number-p3-requires
 put_number-p3-requires c =
-    let r = entry _ _ _ _ in
+    let r = entry_of c.args.r in
     record {
       v_le_five_groups = (small r c.requires.outcome_value).block;
       v_in_bounds = omega (arith, c.requires.outcome_in_bounds, record_bytes-length r, c.put_number-p1.ensures.position);
@@ -30,7 +30,7 @@ put_number-p3-requires c =
 
 pub put_number-requires : goal.put_number-requires
 put_number-requires c =
-    let r = entry _ _ _ _ in record {
+    let r = entry_of c.args.r in record {
       v_le_five_groups = (small r c.requires.outcome_value).outcome;
       v_in_bounds = omega (
         arith,
@@ -44,7 +44,7 @@ put_number-requires c =
 pub returns : goal.returns
 unfolding record_bytes
 returns c =
-    let r = entry c.args.clock c.args.transaction c.args.block c.args.outcome in
+    let r = entry_of c.args.r in
     let a = number_bytes r.clock in
     let b = number_bytes r.transaction in
     let d = number_bytes r.block in

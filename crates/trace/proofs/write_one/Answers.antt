@@ -1,7 +1,7 @@
 -- `trace::write_one` meets its contract: out of range, no room, or the record stored at the front of the rest.
-use Rattle.machine.specs.All.{◌≤◌, sym, ◌∙◌, arith, length, record_bytes}
-use Rattle.trace.specs.{entry}
-use Rattle.trace.proofs.Writer.{refused-range, refused-room, written_record, after-refused, after-written, front-written, refused-bytes, bytes_count}
+use Rattle.machine.specs.All.{clash, ◌≤◌, sym, ◌∙◌, arith, length, record_bytes}
+use Rattle.trace.specs.{entry_of}
+use Rattle.trace.proofs.Writer.{refused-range, refused-room, written_record, after-refused, after-written, front-written, bytes_count}
 use Rattle.trace.proofs.write_one.Goals as goal
 
 pub returns-then-not-in_ranges : goal.returns-then-not-in_ranges
@@ -10,7 +10,7 @@ returns-then-not-in_ranges c =
     record {
       result_after = e;
       bytes = after-refused _ _ 32 e;
-      count = λ n h. absurd (refused-bytes h);
+      count = λ n h. clash (cc);
     }
 
 pub returns-then-rest-len : goal.returns-then-rest-len
@@ -20,15 +20,15 @@ returns-then-rest-len c =
     record {
       result_after = e;
       bytes = after-refused _ _ 33 e;
-      count = λ n h. absurd (refused-bytes h);
+      count = λ n h. clash (cc);
     }
 
 pub returns : goal.returns
 returns c =
     let l = c.args.rest.now in
-    let len = c.record_len-len.ensures in
+    let len = c.len-len.ensures in
     let stored = c.place_record.ensures in
-    let r = entry c.args.clock c.args.transaction c.args.block c.args.outcome in
+    let r = entry_of c.args.r in
     let room : length (record_bytes r) ≤ length l = omega (arith, len) in
     let e = written_record r l (sym c.in_ranges.ensures ∙ c.if-not-in_ranges.false) room in record {
       result_after = rw (len, stored) (cc (front-written r l room, e));

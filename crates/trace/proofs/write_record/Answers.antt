@@ -1,6 +1,6 @@
 -- `trace::write_record` meets its contract: out of range, no room, or the record stored at the front of the rest.
-use Rattle.machine.specs.All.{sym, ◌∙◌, leb-true, leb-false}
-use Rattle.trace.proofs.Writer.{refused-range, refused-room, written_record, after-refused, after-written, front-written, refused-bytes, bytes_count}
+use Rattle.machine.specs.All.{clash, sym, ◌∙◌, leb-true, leb-false}
+use Rattle.trace.proofs.Writer.{refused-range, refused-room, written_record, after-refused, after-written, front-written, bytes_count}
 use Rattle.trace.proofs.write_record.Goals as goal
 
 pub returns-then-not-in_ranges : goal.returns-then-not-in_ranges
@@ -9,7 +9,7 @@ returns-then-not-in_ranges c =
     record {
       result_after = e;
       bytes = after-refused _ _ 32 e;
-      count = λ n h. absurd (refused-bytes h);
+      count = λ n h. clash (cc);
     }
 
 pub fits-requires : goal.fits-requires
@@ -23,7 +23,7 @@ returns-then-not-fits c =
     record {
       result_after = e;
       bytes = after-refused _ _ 33 e;
-      count = λ n h. absurd (refused-bytes h);
+      count = λ n h. clash (cc);
     }
 
 pub put_record-requires : goal.put_record-requires

@@ -5,4 +5,4 @@ use Rattle.clock.proofs.taking.count_move.Goals as goal
 pub returns : goal.returns
 unfolding count_move
 returns c =
-    rw (c.set_count.ensures, c.plus64-moves.ensures, c.count.ensures)
+    rw (c.set_count.ensures, c.saturating_add-moves.ensures, c.count.ensures)

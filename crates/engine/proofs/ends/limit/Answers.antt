@@ -1,5 +1,5 @@
--- `limit` meets its contract: limit by limit. Assumes nothing.
-use Rattle.machine.specs.All.{sym, ◌∙◌, le-leb, lt-leb, rules}
+-- `limit` meets its contract: limit by limit.
+use Rattle.machine.specs.All.{sym, ◌∙◌, le-leb, lt-leb}
 use Rattle.engine_laws.specs.Ends.{limit_rows}
 use Rattle.engine.proofs.ends.limit.Goals as goal
 

@@ -1,4 +1,4 @@
--- `trace_full` meets its contract, without a sum that may not fit. Assumes nothing.
+-- `trace_full` meets its contract, without a sum that may not fit.
 use Rattle.machine.specs.All.{ℕ, ◌-◌, ◌+◌, ◌≤◌, ◌<◌, ◌≡◌, refl, sym, ◌∙◌, Bool, true, false, arith, ltb, lt-ltb, le-ltb, ltb-true, ltb-false, record_room}
 use Rattle.engine_laws.specs.Ends.{full_rows}
 use Rattle.engine.proofs.ends.trace_full.Goals as goal
@@ -16,7 +16,8 @@ aside used room h = go (ltb (room - record_room) used) refl
     go false e = e ∙ sym (le-ltb room (used + record_room) (omega (arith, ltb-false (room - record_room) used e)))
 
 pub returns-then-room-lt-RECORD_ROOM : goal.returns-then-room-lt-RECORD_ROOM
-returns-then-room-lt-RECORD_ROOM c = short _ _ c.if-room-lt-RECORD_ROOM.true
+returns-then-room-lt-RECORD_ROOM c =
+    lt-ltb _ 12 c.if-room-lt-RECORD_ROOM.true ∙ short _ _ c.if-room-lt-RECORD_ROOM.true
 
-pub returns : goal.returns
-returns c = aside _ _ c.if-room-lt-RECORD_ROOM.false
+pub returns-else-room-lt-RECORD_ROOM : goal.returns-else-room-lt-RECORD_ROOM
+returns-else-room-lt-RECORD_ROOM c = aside _ _ c.if-room-lt-RECORD_ROOM.false

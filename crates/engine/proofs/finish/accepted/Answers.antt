@@ -1,7 +1,6 @@
 -- `accepted` meets its contract: the turns, the report, the results. Assumes nothing.
 use Rattle.engine_laws.specs.Last.{last_rows}
 use Rattle.engine_laws.proofs.TurnsLaws.{finishes}
-use Rattle.machine.specs.All.{rules}
 use Rattle.engine.proofs.finish.accepted.Goals as goal
 
 pub returns : goal.returns

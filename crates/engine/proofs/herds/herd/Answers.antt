@@ -1,18 +1,19 @@
 -- `herd` meets its contract: no turn, or those of all who come to the block of the first of REL.
-use Rattle.machine.specs.All.{◌∙◌, sym, arith, not-false, rules}
+use Rattle.machine.specs.All.{◌∙◌, sym, ap, arith}
+use Rattle.state.specs.Notes.{note_number}
 use Rattle.engine_laws.proofs.Herding.{onward-none}
 use Rattle.engine.proofs.herds.herd.Goals as goal
 
-pub returns-then-x-ne-NO_RECORD : goal.returns-then-x-ne-NO_RECORD
-returns-then-x-ne-NO_RECORD c =
+pub returns-in_default : goal.returns-in_default
+returns-in_default c =
     record {
       by_index = λ tape trace. onward-none _ _ tape trace _ _ _ _ _ _;
       least = omega arith;
       most = omega arith;
     }
 
-pub returns-then-x-ne-NOBODY : goal.returns-then-x-ne-NOBODY
-returns-then-x-ne-NOBODY c =
+pub returns-then-number : goal.returns-then-number
+returns-then-number c =
     record {
       by_index = λ tape trace. onward-none _ _ tape trace _ _ _ _ _ _;
       least = omega arith;
@@ -22,7 +23,7 @@ returns-then-x-ne-NOBODY c =
 pub returns-then-quiet : goal.returns-then-quiet
 returns-then-quiet c =
     let call = c.queue_all in record {
-      by_index = λ tape trace. call.ensures.where_enter _ tape trace c.if-x-ne-NOBODY.false c.if-x-ne-NO_RECORD.false
+      by_index = λ tape trace. call.ensures.where_enter _ tape trace (sym c.number.ensures ∙ c.if-number.false ∙ c.number-2.ensures) (sym c.note.ensures ∙ ap note_number c.in-NoRecord.is)
           (sym c.quiet.ensures ∙ c.if-quiet.true);
       least = call.ensures.least;
       most = call.ensures.most;
@@ -39,7 +40,7 @@ returns-then-not-all_wait c =
 pub returns : goal.returns
 returns c =
     let call = c.stay_all in record {
-      by_index = λ tape trace. call.ensures.where_all_wait _ _ tape _ trace c.if-x-ne-NOBODY.false c.if-x-ne-NO_RECORD.false
+      by_index = λ tape trace. call.ensures.where_all_wait _ _ tape _ trace (sym c.number.ensures ∙ c.if-number.false ∙ c.number-2.ensures) (sym c.note.ensures ∙ ap note_number c.in-NoRecord.is)
           (sym c.all_wait.ensures ∙ c.if-not-all_wait.false);
       least = call.ensures.least;
       most = call.ensures.most;

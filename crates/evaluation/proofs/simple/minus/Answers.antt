@@ -1,4 +1,4 @@
--- `terms::simple::minus` meets its contract: a small number has its negative among the signed 32-bit numbers.
+-- `simple::minus` meets its contract: a small number has its negative among the signed 32-bit numbers.
 use Rattle.machine.specs.All.{◌∙◌}
 use Rattle.evaluation.proofs.Signs.{back, minus-fits, minus-back}
 use Rattle.evaluation.proofs.simple.minus.Goals as goal

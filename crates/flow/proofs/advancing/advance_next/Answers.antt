@@ -1,15 +1,25 @@
 -- `advance_next` meets its contract: by cases on the question.
-use Rattle.machine.specs.All.{eq-eqb, ne_eqb, rules}
-use Rattle.flow_laws.specs.Kinds.{advance_with, advance_next}
+use Rattle.state.proofs.Ends.{end_eqb}
+use Rattle.flow_laws.specs.Kinds.{advance_next, advance_with}
 use Rattle.flow.proofs.advancing.advance_next.Goals as goal
 
-pub returns-then-end-ne0 : goal.returns-then-end-ne0
+pub returns-in-Err : goal.returns-in-Err
 unfolding advance_next advance_with
-returns-then-end-ne0 c =
-    rw (← c.next_sample-sample.ensures, ← c.ask_time-end.ensures, ne_eqb _ 0 c.if-end-ne0.true, c.stop.ensures)
+returns-in-Err c = rw (
+  ← c.next_sample-sample.ensures,
+  c.stop.ensures,
+  c.scalars-in-Err.ensures.same,
+  ← c.scalars.ensures.same,
+  ← c.in-Err.ensures,
+  end_eqb _,
+)
 
 pub returns : goal.returns
 unfolding advance_next advance_with
-returns c =
-    rw (← c.next_sample-sample.ensures, ← c.ask_time-end.ensures, eq-eqb _ 0 c.if-end-ne0.false)
+returns c = rw (
+  ← c.next_sample-sample.ensures,
+  ← c.scalars.ensures.same,
+  ← c.in_default.ensures,
+  c.scalars.ensures.same,
+)
     c.delay.ensures

@@ -1,5 +1,5 @@
 -- `generate` meets its contract: by cases on the times left.
-use Rattle.machine.specs.All.{eq-eqb, ne_eqb, rules}
+use Rattle.machine.specs.All.{eq-eqb, ne_eqb}
 use Rattle.moves.specs.Motion.{moved}
 use Rattle.flow_laws.specs.Kinds.{generate_rows}
 use Rattle.flow.proofs.generating.generate.Goals as goal

@@ -1,5 +1,5 @@
 -- `ask_holding` meets its contract: by cases on the residue's count, then on the number's.
-use Rattle.machine.specs.All.{lt-ltb, le-ltb, eq-eqb, ne_eqb, rules}
+use Rattle.machine.specs.All.{lt-ltb, le-ltb, eq-eqb, ne_eqb}
 use Rattle.layout.specs.All.{tally_size}
 use Rattle.flow_laws.specs.Questions.{ask_holding}
 use Rattle.flow.proofs.questions.ask_holding.Goals as goal

@@ -1,12 +1,12 @@
 -- `ask_time` meets its contract: by cases on the sum.
-use Rattle.machine.specs.All.{le-leb, lt-leb, rules}
+use Rattle.machine.specs.All.{le-leb, lt-leb}
 use Rattle.flow_laws.specs.Questions.{ask_time}
 use Rattle.flow.proofs.questions.ask_time.Goals as goal
 
-pub returns-then-plus64-le-MAX_CLOCK : goal.returns-then-plus64-le-MAX_CLOCK
+pub returns-then-saturating_add-le-MAX_CLOCK : goal.returns-then-saturating_add-le-MAX_CLOCK
 unfolding ask_time
-returns-then-plus64-le-MAX_CLOCK c = rw (← c.plus64.ensures, le-leb _ _ c.if-plus64-le-MAX_CLOCK.true)
+returns-then-saturating_add-le-MAX_CLOCK c = rw (← c.saturating_add.ensures, le-leb _ _ c.if-saturating_add-le-MAX_CLOCK.true)
 
-pub returns : goal.returns
+pub returns-else-saturating_add-le-MAX_CLOCK : goal.returns-else-saturating_add-le-MAX_CLOCK
 unfolding ask_time
-returns c = rw (← c.plus64.ensures, lt-leb _ _ c.if-plus64-le-MAX_CLOCK.false)
+returns-else-saturating_add-le-MAX_CLOCK c = rw (← c.saturating_add.ensures, lt-leb _ _ c.if-saturating_add-le-MAX_CLOCK.false)

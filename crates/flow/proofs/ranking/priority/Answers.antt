@@ -1,6 +1,5 @@
 -- `priority` meets its contract: the operand, then the row.
 use Rattle.flow_laws.specs.Kinds.{priority_rows}
-use Rattle.machine.specs.All.{rules}
 use Rattle.flow.proofs.ranking.priority.Goals as goal
 
 pub returns : goal.returns

@@ -1,6 +1,5 @@
 -- `next_sample` meets its contract: the number where the tally says.
 use Rattle.flow_laws.specs.Samples.{next_sample}
-use Rattle.machine.specs.All.{rules}
 use Rattle.flow.proofs.samples.next_sample.Goals as goal
 
 pub returns : goal.returns

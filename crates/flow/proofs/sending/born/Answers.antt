@@ -1,15 +1,13 @@
 -- `born` meets its contract: by cases on the first free row.
-use Rattle.machine.specs.All.{lt-ltb, le-ltb, rules}
+use Rattle.machine.specs.All.{lt-ltb, le-ltb}
 use Rattle.flow_laws.specs.Sending.{one_made, born}
 use Rattle.flow.proofs.sending.born.Goals as goal
 
-pub returns-then-k-ge-ROWS : goal.returns-then-k-ge-ROWS
+pub returns-in_default : goal.returns-in_default
 unfolding one_made born
-returns-then-k-ge-ROWS c =
-    λ x e f. rw (← c.make_row-k.ensures.row, ← c.make_row-k.ensures.rows, le-ltb _ 1024 c.if-k-ge-ROWS.true)
+returns-in_default c = λ x e f. rw (le-ltb _ 1024 c.in_default.ensures.row, c.in_default.ensures.rows)
 
 pub returns : goal.returns
-unfolding born
-returns c =
-    λ x e f. rw (← c.make_row-k.ensures.row, ← c.make_row-k.ensures.rows, lt-ltb _ 1024 c.if-k-ge-ROWS.false)
-    (c.born_at.ensures x e f)
+unfolding one_made born
+returns c = λ x e f.
+    rw (c.in-Some.ensures.row.0, lt-ltb _ 1024 c.in-Some.ensures.row.1, ← c.in-Some.ensures.rows) (c.born_at.ensures x e f)

@@ -1,15 +1,26 @@
 -- `split` meets its contract: by cases on the question.
-use Rattle.machine.specs.All.{eq-eqb, ne_eqb, rules}
+use Rattle.state.proofs.Ends.{end_eqb}
 use Rattle.flow_laws.specs.Kinds.{split_rows}
 use Rattle.flow.proofs.splitting.split.Goals as goal
 
-pub returns-then-end-ne0 : goal.returns-then-end-ne0
+pub returns-in-Err : goal.returns-in-Err
 unfolding split_rows
-returns-then-end-ne0 c =
-    rw (← c.number-n.ensures, ← c.ask_room-end.ensures, ne_eqb _ 0 c.if-end-ne0.true, c.stop.ensures)
+returns-in-Err c = rw (
+  ← c.number-n.ensures,
+  c.stop.ensures,
+  c.scalars-in-Err.ensures.same,
+  ← c.scalars.ensures.same,
+  ← c.in-Err.ensures,
+  end_eqb _,
+)
 
 pub returns : goal.returns
 unfolding split_rows
-returns c =
-    rw (← c.number-n.ensures, ← c.number-target.ensures, ← c.ask_room-end.ensures, eq-eqb _ 0 c.if-end-ne0.false)
+returns c = rw (
+  ← c.number-n.ensures,
+  ← c.number-target.ensures,
+  ← c.scalars.ensures.same,
+  ← c.in_default.ensures,
+  c.scalars.ensures.same,
+)
     c.split_on.ensures

@@ -1,21 +1,22 @@
 -- `terminate` meets its contract: by cases on the question; then the row and the scalars.
-use Rattle.machine.specs.All.{eq-eqb, ne_eqb, rules}
+use Rattle.machine.specs.All.{ap, ◌∙◌}
+use Rattle.rows_laws.specs.All.{number_field, read}
+use Rattle.state.proofs.Ends.{end_eqb}
 use Rattle.flow_laws.specs.Kinds.{terminate_rows}
 use Rattle.flow.proofs.terminating.terminate.Goals as goal
 
-pub returns-then-end-ne0 : goal.returns-then-end-ne0
+pub returns-in-Err : goal.returns-in-Err
 unfolding terminate_rows
-returns-then-end-ne0 c =
-    rw (← c.read.ensures, ← c.ask_holding-end.ensures, ne_eqb _ 0 c.if-end-ne0.true, c.stop.ensures)
+returns-in-Err c = rw (← (c.read.ensures ∙ ap (read c.args.work.now number_field) c.row-k.ensures), ← c.in-Err.ensures, end_eqb _, c.stop.ensures, c.scalars.ensures.same)
 
 pub returns : goal.returns
 unfolding terminate_rows
-returns c =
-    rw (
-      ← c.read.ensures,
-      ← c.ask_holding-end.ensures,
-      eq-eqb _ 0 c.if-end-ne0.false,
-      ← c.number-a.ensures,
-      c.end_one.ensures,
-      c.free_row.ensures,
-    )
+returns c = rw (
+  ← (c.read.ensures ∙ ap (read c.args.work.now number_field) c.row-k.ensures),
+  ← c.in_default.ensures,
+  ← c.number-a.ensures,
+  c.end_one.ensures,
+  c.scalars-2.ensures.same,
+  c.free_row.ensures,
+  c.row-k.ensures,
+)

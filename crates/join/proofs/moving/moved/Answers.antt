@@ -1,57 +1,40 @@
 -- `join::moving::moved` meets its contract: each arm is a line of `moved_by`.
-use Rattle.machine.specs.All.{arith, ne_eqb}
+use Rattle.machine.specs.All.{arith}
 use Rattle.join_laws.specs.Rows.{moved_by}
 use Rattle.join.proofs.moving.moved.Goals as goal
 
-pub returns-in-2 : goal.returns-in-2
+pub returns-in-Plain : goal.returns-in-Plain
 unfolding moved_by
-returns-in-2 c = rw c.in-2.is
+returns-in-Plain c = rw c.in-Plain.is (omega arith)
 
-pub returns-in-4 : goal.returns-in-4
+pub returns-in-Parameter : goal.returns-in-Parameter
 unfolding moved_by
-returns-in-4 c = rw c.in-4.is
+returns-in-Parameter c = rw c.in-Parameter.is (omega arith)
 
-pub returns-in-5 : goal.returns-in-5
+pub returns-in-Block : goal.returns-in-Block
 unfolding moved_by
-returns-in-5 c = rw c.in-5.is
+returns-in-Block c = rw c.in-Block.is (omega arith)
 
-pub returns-in-6 : goal.returns-in-6
+pub returns-in-Queue : goal.returns-in-Queue
 unfolding moved_by
-returns-in-6 c =
-    rw (c.in-6.is, ← c.less.ensures)
+returns-in-Queue c = rw c.in-Queue.is (omega arith)
 
-pub returns-in-7 : goal.returns-in-7
+pub returns-in-Server : goal.returns-in-Server
 unfolding moved_by
-returns-in-7 c =
-    rw (c.in-7.is, ← c.less-in-7.ensures)
+returns-in-Server c = rw c.in-Server.is (omega arith)
 
-pub returns-in-8 : goal.returns-in-8
+pub returns-in-Facility : goal.returns-in-Facility
 unfolding moved_by
-returns-in-8 c = rw c.in-8.is
+returns-in-Facility c = rw c.in-Facility.is (omega arith)
 
-pub returns-in-9 : goal.returns-in-9
+pub returns-in-Value : goal.returns-in-Value
 unfolding moved_by
-returns-in-9 c = rw c.in-9.is
+returns-in-Value c = rw c.in-Value.is (omega arith)
 
-pub returns-in-12 : goal.returns-in-12
+pub returns-in-List : goal.returns-in-List
 unfolding moved_by
-returns-in-12 c = rw c.in-12.is
+returns-in-List c = rw c.in-List.is (omega arith)
 
-pub returns-in-13 : goal.returns-in-13
+pub returns-in-Target : goal.returns-in-Target
 unfolding moved_by
-returns-in-13 c = rw c.in-13.is
-
-pub returns-in_default : goal.returns-in_default
-unfolding moved_by
-returns-in_default c =
-    rw (
-      ne_eqb c.args.role 2 (λ e. omega arith),
-      ne_eqb c.args.role 4 (λ e. omega arith),
-      ne_eqb c.args.role 5 (λ e. omega arith),
-      ne_eqb c.args.role 6 (λ e. omega arith),
-      ne_eqb c.args.role 7 (λ e. omega arith),
-      ne_eqb c.args.role 8 (λ e. omega arith),
-      ne_eqb c.args.role 9 (λ e. omega arith),
-      ne_eqb c.args.role 12 (λ e. omega arith),
-      ne_eqb c.args.role 13 (λ e. omega arith),
-    )
+returns-in-Target c = rw c.in-Target.is (omega arith)

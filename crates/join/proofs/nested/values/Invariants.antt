@@ -8,6 +8,3 @@ abbrev pub invariant-loop-k : goal.invariant-loop-k
 invariant-loop-k l =
     (length l.out ≡ length l.initial.out) × (l.k ≤ l.count)
     × (puts (value_rows l.tables l.by (l.count - l.k) l.k) (written l.next l.out) ≡ puts (value_rows l.tables l.by l.count 0) (written l.to l.initial.out))
-
-abbrev pub decreases-loop-k : goal.decreases-loop-k
-decreases-loop-k l = l.count - l.k

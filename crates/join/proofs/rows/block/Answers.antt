@@ -5,5 +5,5 @@ use Rattle.join.proofs.rows.block.Goals as goal
 pub returns : goal.returns
 returns c =
     block-whole _ _ _ _ _ _ _ _ c.number-kind.ensures
-    c.emit-next.ensures c.shape.ensures
+    c.emit-next.ensures c.shape_by.ensures.digits
     c.operands.ensures

@@ -8,6 +8,3 @@ abbrev pub invariant-loop-b : goal.invariant-loop-b
 invariant-loop-b l =
     (length l.out ≡ length l.initial.out) × (l.b ≤ l.count)
     × (puts (block_rows l.tables l.by (l.count - l.b) l.b) (written l.next l.out) ≡ puts (block_rows l.tables l.by l.count 0) (written l.to l.initial.out))
-
-abbrev pub decreases-loop-b : goal.decreases-loop-b
-decreases-loop-b l = l.count - l.b

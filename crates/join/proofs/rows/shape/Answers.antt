@@ -1,100 +1,83 @@
 -- `join::rows::shape` meets its contract: each arm is a line of `shape_of`.
-use Rattle.machine.specs.All.{arith, ne_eqb}
 use Rattle.join_laws.specs.Rows.{shape_of}
 use Rattle.join.proofs.rows.shape.Goals as goal
 
-pub returns-in-1 : goal.returns-in-1
+pub returns-in-Generate-clause-digits : goal.returns-in-Generate-clause-digits
 unfolding shape_of
-returns-in-1 c = rw c.in-1.is
+returns-in-Generate-clause-digits c = rw c.in-Generate.is
 
-pub returns-in-2 : goal.returns-in-2
+pub returns-in-Advance-clause-digits : goal.returns-in-Advance-clause-digits
 unfolding shape_of
-returns-in-2 c = rw c.in-2.is
+returns-in-Advance-clause-digits c = rw c.in-Advance.is
 
-pub returns-in-3 : goal.returns-in-3
+pub returns-in-Terminate-clause-digits : goal.returns-in-Terminate-clause-digits
 unfolding shape_of
-returns-in-3 c = rw c.in-3.is
+returns-in-Terminate-clause-digits c = rw c.in-Terminate.is
 
-pub returns-in-4 : goal.returns-in-4
+pub returns-in-Seize-clause-digits : goal.returns-in-Seize-clause-digits
 unfolding shape_of
-returns-in-4 c = rw c.in-4.is
+returns-in-Seize-clause-digits c = rw c.in-Seize.is
 
-pub returns-in-5 : goal.returns-in-5
+pub returns-in-Release-clause-digits : goal.returns-in-Release-clause-digits
 unfolding shape_of
-returns-in-5 c = rw c.in-5.is
+returns-in-Release-clause-digits c = rw c.in-Release.is
 
-pub returns-in-6 : goal.returns-in-6
+pub returns-in-Enter-clause-digits : goal.returns-in-Enter-clause-digits
 unfolding shape_of
-returns-in-6 c = rw c.in-6.is
+returns-in-Enter-clause-digits c = rw c.in-Enter.is
 
-pub returns-in-7 : goal.returns-in-7
+pub returns-in-Leave-clause-digits : goal.returns-in-Leave-clause-digits
 unfolding shape_of
-returns-in-7 c = rw c.in-7.is
+returns-in-Leave-clause-digits c = rw c.in-Leave.is
 
-pub returns-in-8 : goal.returns-in-8
+pub returns-in-WaitServer-clause-digits : goal.returns-in-WaitServer-clause-digits
 unfolding shape_of
-returns-in-8 c = rw c.in-8.is
+returns-in-WaitServer-clause-digits c = rw c.in-WaitServer.is
 
-pub returns-in-9 : goal.returns-in-9
+pub returns-in-WaitTerms-clause-digits : goal.returns-in-WaitTerms-clause-digits
 unfolding shape_of
-returns-in-9 c = rw c.in-9.is
+returns-in-WaitTerms-clause-digits c = rw c.in-WaitTerms.is
 
-pub returns-in-10 : goal.returns-in-10
+pub returns-in-Branch-clause-digits : goal.returns-in-Branch-clause-digits
 unfolding shape_of
-returns-in-10 c = rw c.in-10.is
+returns-in-Branch-clause-digits c = rw c.in-Branch.is
 
-pub returns-in-11 : goal.returns-in-11
+pub returns-in-Goto-clause-digits : goal.returns-in-Goto-clause-digits
 unfolding shape_of
-returns-in-11 c = rw c.in-11.is
+returns-in-Goto-clause-digits c = rw c.in-Goto.is
 
-pub returns-in-12 : goal.returns-in-12
+pub returns-in-Assign-clause-digits : goal.returns-in-Assign-clause-digits
 unfolding shape_of
-returns-in-12 c = rw c.in-12.is
+returns-in-Assign-clause-digits c = rw c.in-Assign.is
 
-pub returns-in-13 : goal.returns-in-13
+pub returns-in-Priority-clause-digits : goal.returns-in-Priority-clause-digits
 unfolding shape_of
-returns-in-13 c = rw c.in-13.is
+returns-in-Priority-clause-digits c = rw c.in-Priority.is
 
-pub returns-in-14 : goal.returns-in-14
+pub returns-in-Split-clause-digits : goal.returns-in-Split-clause-digits
 unfolding shape_of
-returns-in-14 c = rw c.in-14.is
+returns-in-Split-clause-digits c = rw c.in-Split.is
 
-pub returns-in-15 : goal.returns-in-15
+pub returns-in-Arrive-clause-digits : goal.returns-in-Arrive-clause-digits
 unfolding shape_of
-returns-in-15 c = rw c.in-15.is
+returns-in-Arrive-clause-digits c = rw c.in-Arrive.is
 
-pub returns-in-16 : goal.returns-in-16
+pub returns-in-Depart-clause-digits : goal.returns-in-Depart-clause-digits
 unfolding shape_of
-returns-in-16 c = rw c.in-16.is
+returns-in-Depart-clause-digits c = rw c.in-Depart.is
 
-pub returns-in-17 : goal.returns-in-17
+pub returns-in-JoinedWait-clause-digits : goal.returns-in-JoinedWait-clause-digits
 unfolding shape_of
-returns-in-17 c = rw c.in-17.is
+returns-in-JoinedWait-clause-digits c = rw c.in-JoinedWait.is
 
-pub returns-in-18 : goal.returns-in-18
+pub returns-in-Assemble-clause-digits : goal.returns-in-Assemble-clause-digits
 unfolding shape_of
-returns-in-18 c = rw c.in-18.is
+returns-in-Assemble-clause-digits c = rw c.in-Assemble.is
 
-pub returns-in_default : goal.returns-in_default
+pub returns-in-Preempt-clause-digits : goal.returns-in-Preempt-clause-digits
 unfolding shape_of
-returns-in_default c =
-    rw (
-      ne_eqb c.args.kind 1 (λ e. omega arith),
-      ne_eqb c.args.kind 2 (λ e. omega arith),
-      ne_eqb c.args.kind 3 (λ e. omega arith),
-      ne_eqb c.args.kind 4 (λ e. omega arith),
-      ne_eqb c.args.kind 5 (λ e. omega arith),
-      ne_eqb c.args.kind 6 (λ e. omega arith),
-      ne_eqb c.args.kind 7 (λ e. omega arith),
-      ne_eqb c.args.kind 8 (λ e. omega arith),
-      ne_eqb c.args.kind 9 (λ e. omega arith),
-      ne_eqb c.args.kind 10 (λ e. omega arith),
-      ne_eqb c.args.kind 11 (λ e. omega arith),
-      ne_eqb c.args.kind 12 (λ e. omega arith),
-      ne_eqb c.args.kind 13 (λ e. omega arith),
-      ne_eqb c.args.kind 14 (λ e. omega arith),
-      ne_eqb c.args.kind 15 (λ e. omega arith),
-      ne_eqb c.args.kind 16 (λ e. omega arith),
-      ne_eqb c.args.kind 17 (λ e. omega arith),
-      ne_eqb c.args.kind 18 (λ e. omega arith),
-    )
+returns-in-Preempt-clause-digits c = rw c.in-Preempt.is
+
+pub returns-in-Return-clause-digits : goal.returns-in-Return-clause-digits
+unfolding shape_of
+returns-in-Return-clause-digits c = rw c.in-Return.is

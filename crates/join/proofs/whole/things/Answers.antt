@@ -2,12 +2,8 @@
 use Rattle.join_laws.proofs.RowSteps.{things-whole}
 use Rattle.join.proofs.whole.things.Goals as goal
 
-pub values-requires : goal.values-requires
-values-requires c =
-    c.requires.1.within.values
-
 pub returns : goal.returns
 returns c =
     things-whole _ _ _ _ _ _ _ _ _ _ _
-    c.both-p.ensures c.both-q.ensures c.first.ensures c.values-r.ensures c.second.ensures
+    c.both-p.ensures c.both-q.ensures c.first_shift.ensures c.values-r.ensures c.second_shift.ensures
     c.values.ensures

@@ -3,10 +3,10 @@ use Rattle.machine.specs.All.{lt-ltb, le-ltb}
 use Rattle.rows_laws.specs.All.{store}
 use Rattle.rows.proofs.cells.store.Goals as goal
 
-pub returns-then-i-ge-WORK_NUMBERS : goal.returns-then-i-ge-WORK_NUMBERS
+pub returns-then-i-lt-WORK_NUMBERS : goal.returns-then-i-lt-WORK_NUMBERS
 unfolding store
-returns-then-i-ge-WORK_NUMBERS c = rw (le-ltb _ _ c.if-i-ge-WORK_NUMBERS.true)
+returns-then-i-lt-WORK_NUMBERS c = rw (lt-ltb _ 16384 c.if-i-lt-WORK_NUMBERS.true)
 
-pub returns : goal.returns
+pub returns-else-i-lt-WORK_NUMBERS : goal.returns-else-i-lt-WORK_NUMBERS
 unfolding store
-returns c = rw (lt-ltb _ 16384 c.if-i-ge-WORK_NUMBERS.false)
+returns-else-i-lt-WORK_NUMBERS c = rw (le-ltb _ 16384 c.if-i-lt-WORK_NUMBERS.false)

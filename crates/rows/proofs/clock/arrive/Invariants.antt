@@ -1,11 +1,8 @@
--- `arrive` meets its contract. The invariant: the rest of the arrivals from here are all of them. The measure: the steps left.
-use Rattle.machine.specs.All.{◌+◌, ◌-◌, ◌≤◌, ◌≡◌, length}
+-- `arrive` meets its contract. The invariant: the rest of the arrivals from here are all of them.
+use Rattle.machine.specs.All.{◌+◌, ◌-◌, ◌≤◌, ◌≡◌}
 use Rattle.rows_laws.specs.All.{arrive}
 use Rattle.rows.proofs.clock.arrive.Given as goal
 
-abbrev pub invariant-loop-i : goal.invariant-loop-i
-invariant-loop-i l =
-    (arrive (1024 - l.i) l.due l.w l.s ≡ arrive 1024 l.due l.initial.w l.serial) × ((l.i ≤ 1024) × ((length l.w ≡ length l.initial.w) × (l.s ≤ l.serial + l.i)))
-
-abbrev pub decreases-loop-i : goal.decreases-loop-i
-decreases-loop-i l = 1024 - l.i
+abbrev pub invariant-loop : goal.invariant-loop
+invariant-loop l =
+    record { rest : arrive (1024 - l.counter) l.due l.w l.s ≡ arrive 1024 l.due l.initial.w l.serial; given : l.s ≤ l.serial + l.counter }

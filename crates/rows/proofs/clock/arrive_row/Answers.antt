@@ -4,5 +4,4 @@ use Rattle.rows.proofs.clock.arrive_row.Goals as goal
 
 pub returns : goal.returns
 unfolding arrive_row
-returns c =
-    rw (c.put.ensures, c.write.ensures, c.set_returning.ensures, c.cancel.ensures)
+returns c = cc

@@ -3,10 +3,10 @@ use Rattle.machine.specs.All.{lt-ltb, le-ltb}
 use Rattle.rows_laws.specs.All.{is_due}
 use Rattle.rows.proofs.clock.is_due.Goals as goal
 
-pub returns-then-first-ge-ROWS : goal.returns-then-first-ge-ROWS
+pub returns-in-Some : goal.returns-in-Some
 unfolding is_due
-returns-then-first-ge-ROWS c = rw (← c.get-first.ensures, le-ltb _ 1024 c.if-first-ge-ROWS.true)
+returns-in-Some c = rw (c.in-Some.ensures.0, lt-ltb _ 1024 c.in-Some.ensures.1, ← c.time.ensures)
 
-pub returns : goal.returns
+pub returns-in-None : goal.returns-in-None
 unfolding is_due
-returns c = rw (← c.get-first.ensures, lt-ltb _ 1024 c.if-first-ge-ROWS.false, ← c.time.ensures)
+returns-in-None c = rw (le-ltb _ 1024 c.in-None.ensures)

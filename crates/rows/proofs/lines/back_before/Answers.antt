@@ -9,4 +9,4 @@ returns-then-last_meets c = rw (sym c.last_meets.ensures ∙ c.if-last_meets.tru
 
 pub returns : goal.returns
 unfolding back_before
-returns c = rw (sym c.last_meets.ensures ∙ c.if-last_meets.false) c.last_cell.ensures
+returns c = rw (sym c.last_meets.ensures ∙ c.if-last_meets.false, ← c.head.ensures.cell) c.last_cell.ensures

@@ -4,4 +4,4 @@ use Rattle.rows.proofs.lines.back_spot.Goals as goal
 
 pub returns : goal.returns
 unfolding back_spot
-returns c = rw (← c.get-t.ensures) c.back_before.ensures
+returns c = cc

@@ -7,10 +7,10 @@ pub returns-then-t-lt-LINKS : goal.returns-then-t-lt-LINKS
 unfolding last_meets
 returns-then-t-lt-LINKS c = rw (lt-ltb _ links c.if-t-lt-LINKS.true)
 
-pub returns-then-j-ge-ROWS : goal.returns-then-j-ge-ROWS
+pub returns-in-Some : goal.returns-in-Some
 unfolding last_meets
-returns-then-j-ge-ROWS c = rw (le-ltb _ links c.if-t-lt-LINKS.false, le-ltb _ 1024 c.if-j-ge-ROWS.true)
+returns-in-Some c = rw (le-ltb _ links c.if-t-lt-LINKS.false, c.in-Some.ensures.0, lt-ltb _ 1024 c.in-Some.ensures.1) c.at_least.ensures
 
-pub returns : goal.returns
+pub returns-in-None : goal.returns-in-None
 unfolding last_meets
-returns c = rw (le-ltb _ links c.if-t-lt-LINKS.false, lt-ltb _ 1024 c.if-j-ge-ROWS.false) c.at_least.ensures
+returns-in-None c = rw (le-ltb _ links c.if-t-lt-LINKS.false, le-ltb _ 1024 c.in-None.ensures)

@@ -5,7 +5,7 @@ use Rattle.rows.proofs.lines.second_spot.Goals as goal
 
 pub returns-then-read-eq1 : goal.returns-then-read-eq1
 unfolding second_spot
-returns-then-read-eq1 c = rw (← c.read.ensures, eq-eqb _ 1 c.if-read-eq1.true)
+returns-then-read-eq1 c = rw (← c.read.ensures, eq-eqb _ 1 c.if-read-eq1.true) c.head.ensures.cell
 
 pub returns : goal.returns
 unfolding second_spot

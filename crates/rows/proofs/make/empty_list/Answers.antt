@@ -4,5 +4,4 @@ use Rattle.rows.proofs.make.empty_list.Goals as goal
 
 pub returns : goal.returns
 unfolding empty_list
-returns c =
-    rw (c.set-2.ensures, c.set.ensures)
+returns c = cc

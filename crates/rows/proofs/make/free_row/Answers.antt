@@ -4,4 +4,4 @@ use Rattle.rows.proofs.make.free_row.Goals as goal
 
 pub returns : goal.returns
 unfolding free_row
-returns c = c.insert_at.ensures
+returns c = cc

@@ -1,10 +1,7 @@
--- `loose_rows` meets its contract. The invariant: the first rows are done. The measure: those left.
-use Rattle.machine.specs.All.{◌-◌, ◌≤◌, ◌≡◌, length}
+-- `loose_rows` meets its contract. The invariant: those before this one are done.
+use Rattle.machine.specs.All.{◌≡◌}
 use Rattle.rows_laws.specs.All.{loose_rows}
 use Rattle.rows.proofs.make.loose_rows.Given as goal
 
 abbrev pub invariant-loop-k : goal.invariant-loop-k
-invariant-loop-k l = (l.w ≡ loose_rows l.k l.initial.w) × ((l.k ≤ 1024) × (length l.w ≡ length l.initial.w))
-
-abbrev pub decreases-loop-k : goal.decreases-loop-k
-decreases-loop-k l = 1024 - l.k
+invariant-loop-k l = l.w ≡ loose_rows l.k l.initial.w

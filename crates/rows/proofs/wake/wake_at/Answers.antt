@@ -1,13 +1,12 @@
--- `wake_at` meets its contract, by cases on the row of the cell.
+-- `wake_at` meets its contract, by cases on whether the cell holds a row.
 use Rattle.machine.specs.All.{lt-ltb, le-ltb}
 use Rattle.rows_laws.specs.All.{wake_at}
 use Rattle.rows.proofs.wake.wake_at.Goals as goal
 
-pub returns-then-k-ge-ROWS : goal.returns-then-k-ge-ROWS
+pub returns-in-Some : goal.returns-in-Some
 unfolding wake_at
-returns-then-k-ge-ROWS c = rw (← c.load-k.ensures, le-ltb _ 1024 c.if-k-ge-ROWS.true)
+returns-in-Some c = rw (c.in-Some.ensures.0, lt-ltb _ 1024 c.in-Some.ensures.1) c.wake_row.ensures
 
-pub returns : goal.returns
+pub returns-in_default : goal.returns-in_default
 unfolding wake_at
-returns c =
-    rw (← c.load-k.ensures, lt-ltb _ 1024 c.if-k-ge-ROWS.false) c.wake_row.ensures
+returns-in_default c = rw (le-ltb _ 1024 c.in_default.ensures)

@@ -1,4 +1,4 @@
--- `ready_parts` meets its contract. The invariant: what is left to do from here is all of it. The measure: the parts left.
+-- `ready_parts` meets its contract. The invariant: what is left to do from here is all of it.
 use Rattle.machine.specs.All.{ℕ, zero, suc, ◌*◌, ◌-◌, ◌≡◌, ◌≢◌, refl, sym, ◌∙◌, List, arith, ne_eqb}
 use Rattle.rows_laws.specs.All.{part_rows, ready_rows, ready_count, ready_parts}
 use Rattle.rows.proofs.whole.ready_parts.Goals as goal
@@ -18,20 +18,15 @@ parts_next : (n m : ℕ) (w w' : List ℕ) (p left found less : ℕ) → n ≡ s
 unfolding ready_parts
 parts_next n m w w' p left found less e some r g l = rw (e, ne_eqb _ 0 some, l, r, g)
 
-pub loop-c-init : goal.loop-c-init
-loop-c-init c = (refl, (omega arith, refl))
-
 pub returns-then-left-eq0 : goal.returns-then-left-eq0
-returns-then-left-eq0 c = sym (parts-stop _ _ _ _ c.if-left-eq0.true) ∙ c.loop-c.invariant.0
+returns-then-left-eq0 c = sym (parts-stop _ _ _ _ c.if-left-eq0.true) ∙ c.loop-c.invariant
 
 pub loop-c-preserved : goal.loop-c-preserved
-loop-c-preserved c = (
-  sym
-      (parts_next _ _ _ _ _ _ _ _ (omega arith) c.if-left-eq0.false c.ready_rows.ensures.rows
-      c.ready_rows.ensures.count c.fewer-left.ensures)
-      ∙ c.loop-c.invariant.0,
-  (omega arith, omega arith),
-)
+loop-c-preserved c =
+    sym
+    (parts_next _ _ _ _ _ _ _ _ (omega arith) c.if-left-eq0.false c.ready_rows-found.ensures.rows
+    c.ready_rows-found.ensures.count c.saturating_sub-left.ensures)
+    ∙ c.loop-c.invariant
 
 pub returns : goal.returns
-returns c = sym (parts-end _ _ _ _ (omega arith)) ∙ c.loop-c.invariant.0
+returns c = sym (parts-end _ _ _ _ (omega arith)) ∙ c.loop-c.invariant

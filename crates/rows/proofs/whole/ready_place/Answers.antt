@@ -3,8 +3,10 @@ use Rattle.machine.specs.All.{eq-eqb, ne_eqb}
 use Rattle.rows_laws.specs.All.{ready_place}
 use Rattle.rows.proofs.whole.ready_place.Goals as goal
 
-pub returns-then-q-p : goal.returns-then-q-p
-returns-then-q-p c = unfold ready_place in rw (eq-eqb _ _ c.if-q-p.true)
+pub returns-then-q-number : goal.returns-then-q-number
+unfolding ready_place
+returns-then-q-number c = rw (← c.number.ensures.same, eq-eqb _ _ c.if-q-number.true)
 
-pub returns : goal.returns
-returns c = unfold ready_place in rw (ne_eqb _ _ c.if-q-p.false)
+pub returns-else-q-number : goal.returns-else-q-number
+unfolding ready_place
+returns-else-q-number c = rw (← c.number.ensures.same, ne_eqb _ _ c.if-q-number.false)

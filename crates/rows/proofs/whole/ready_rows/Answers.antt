@@ -1,4 +1,4 @@
--- `ready_rows` meets its contract. The invariant: the first rows of the part are done and counted. The measure: those left.
+-- `ready_rows` meets its contract. The invariant: the first rows of the part are done and counted.
 use Rattle.machine.specs.All.{ℕ, ◌+◌, ◌≡◌, refl, List, arith, add-one}
 use Rattle.rows_laws.specs.All.{part_rows, ready_row, ready_rows, ready_count, one_if, load, place}
 use Rattle.rows.proofs.whole.ready_rows.Goals as goal
@@ -13,31 +13,27 @@ count_next : (w₀ w : List ℕ) (p from i n r : ℕ) → w ≡ ready_rows i w�
 unfolding ready_count
 count_next w₀ w p from i n r e f g = rw (add-one i) (cc (e, f, g))
 
-rows_all : (w₀ w : List ℕ) (p from i n : ℕ) → i ≡ n → w ≡ ready_rows i w₀ p from → w ≡ ready_rows n w₀ p from
-rows_all w₀ w p from i n e g = rw (← e) g
-
-count-all : (w₀ : List ℕ) (p from i n r : ℕ) → i ≡ n → r ≡ ready_count i w₀ p from → r ≡ ready_count n w₀ p from
-count-all w₀ p from i n r e g = rw (← e) g
-
 pub loop-i-init : goal.loop-i-init
 unfolding ready_rows ready_count
-loop-i-init c = (refl, (refl, (omega arith, (omega arith, refl))))
+loop-i-init c = record {
+  rows = refl;
+  count = refl;
+  small = omega arith;
+}
 
 pub loop-i-preserved : goal.loop-i-preserved
 loop-i-preserved c =
-    let l = c.loop-i in (
-      rows_next _ _ _ _ _ _ l.invariant.0 c.ready_row-n.ensures.rows,
-      (
-        count_next _ _ _ _ _ _ _ l.invariant.0 l.invariant.1.0 c.ready_row-n.ensures.count,
-        (omega arith, (omega (arith, c.ready_row-n.ensures.small), omega arith)),
-      ),
-    )
+    let l = c.loop-i in record {
+      rows = rows_next _ _ _ _ _ _ l.invariant.rows c.ready_row-n.ensures.rows;
+      count = count_next _ _ _ _ _ _ _ l.invariant.rows l.invariant.count c.ready_row-n.ensures.count;
+      small = omega arith;
+    }
 
 pub returns : goal.returns
 returns c =
     let l = c.loop-i in
     let all : l.i ≡ part_rows = omega arith in
     record {
-      rows = rows_all _ _ _ _ _ _ all l.invariant.0;
-      count = count-all _ _ _ _ _ _ all l.invariant.1.0;
+      rows = rw (← all) l.invariant.rows;
+      count = rw (← all) l.invariant.count;
     }

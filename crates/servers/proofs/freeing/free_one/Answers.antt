@@ -7,10 +7,10 @@ use Rattle.servers.proofs.freeing.free_one.Goals as goal
 
 pub returns : goal.returns
 unfolding free_one
-returns c =
-    λ x e g. rw (
+returns g c =
+    λ x e t. rw (
       c.wake_first_ql.ensures.lengths,
-      changed-at _ _ _ _ _ _ _ _ c.change_use.ensures g,
+      changed-at _ _ _ _ _ _ _ _ c.change_use.ensures t,
       ← c.wake_first_ql.ensures.rows,
       ← c.capacity-all.ensures.capacity,
     )

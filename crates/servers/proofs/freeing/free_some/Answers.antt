@@ -8,15 +8,18 @@ use Rattle.servers.proofs.freeing.free_some.Goals as goal
 pub returns : goal.returns
 unfolding free_some
 returns c =
-    λ x e g. rw (
+    λ x e g.
+    let n = rw c.index-at.ensures.same at c.count.ensures in
+    let stay = rw c.index-at.ensures.same at c.set_count.ensures in
+    rw (
       ← c.capacity-all.ensures.capacity,
       ← c.number-edition.ensures,
-      ← c.less64.ensures,
+      ← c.saturating_sub.ensures,
       ← c.leave_with-left.ensures,
       ← changed-at _ _ _ _ _ _ _ _ c.change_use.ensures g,
-      ← c.count.ensures,
+      ← n,
       ← c.wake_some-stay.ensures.rows,
       ← c.wake_some-stay.ensures.stays,
-      ← c.set_count.ensures,
+      ← stay,
     )
     (tallied _ _ _ _ _ (c.enter_freed.ensures x e) refl)

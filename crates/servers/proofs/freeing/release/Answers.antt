@@ -1,34 +1,39 @@
 -- `release` meets its contract, by cases on the question.
-use Rattle.machine.specs.All.{refl, eq-eqb, ne_eqb}
+use Rattle.machine.specs.All.{sym, ap}
 use Rattle.servers_laws.specs.Freeing.{release_rows}
+use Rattle.state.proofs.Ends.{end_eqb}
 use Rattle.servers.proofs.freeing.release.Goals as goal
 
-pub returns-then-end-ne0 : goal.returns-then-end-ne0
+pub returns-in-Err : goal.returns-in-Err
 unfolding release_rows
-returns-then-end-ne0 c =
+returns-in-Err c =
+    let number = rw c.row-k.ensures at c.read-number.ensures in
     rw (
-      ← c.server_at-v.ensures.server,
+      ← c.server_at-v.ensures,
       ← c.in_use-units.ensures,
-      ← c.read-number.ensures,
+      ← number,
       ← c.preempted.ensures,
       ← c.holder.ensures,
-      ← c.ask_release-end.ensures,
-      ne_eqb _ 0 c.if-end-ne0.true,
+      ← c.in-Err.ensures,
+      end_eqb _,
       c.stop.ensures,
+      c.scalars-s.ensures.same,
     )
 
 pub returns : goal.returns
 unfolding release_rows
 returns c =
+    let same = c.scalars-s.ensures.same in
+    let number = rw c.row-k.ensures at c.read-number.ensures in
     rw (
       c.with_outcome.ensures,
-      ← c.server_at-v.ensures.server,
+      same,
+      ← c.server_at-v.ensures,
       ← c.in_use-units.ensures,
-      ← c.read-number.ensures,
+      ← number,
       ← c.preempted.ensures,
       ← c.holder.ensures,
-      ← c.ask_release-end.ensures,
-      eq-eqb _ 0 c.if-end-ne0.false,
-      ← c.less64.ensures,
+      ← c.in_default.ensures,
+      ← c.saturating_sub.ensures,
     )
-    (c.release_one.ensures _ refl refl)
+    (c.free_one.ensures _ (sym c.row-k.ensures) (sym (ap (λ x. x.clock) same)))

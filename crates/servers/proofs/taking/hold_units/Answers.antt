@@ -7,9 +7,9 @@ use Rattle.servers.proofs.taking.hold_units.Goals as goal
 
 pub returns : goal.returns
 unfolding hold_units
-returns c =
-    λ x e g. rw (
-      changed-at _ _ _ _ _ _ _ _ c.change_use.ensures g,
+returns g c =
+    λ x e t. rw (
+      changed-at _ _ _ _ _ _ _ _ c.change_use.ensures t,
       ← c.keep_holder.ensures,
       ← c.check_wels.ensures,
     )

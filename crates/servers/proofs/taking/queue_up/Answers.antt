@@ -10,8 +10,9 @@ unfolding queue_up longer
 returns c =
     λ x e f g. rw (
       c.set_count.ensures,
-      c.plus64-n.ensures,
+      c.saturating_add-n.ensures,
       c.count.ensures,
-      updated-at _ _ _ _ _ c.update_server.ensures g,
+      c.index-at.ensures.same,
+      updated-at _ _ _ _ _ (rw c.index.ensures.same at c.update_server.ensures) g,
     )
-    (tallied _ _ _ _ _ (c.row_waits.ensures x e f) refl)
+    (tallied _ _ _ _ _ (rw c.queue.ensures at (c.row_waits.ensures x e f)) refl)

@@ -1,10 +1,12 @@
 -- `seize` meets its contract: one unit of the server that the block names, held by the moving one.
-use Rattle.machine.specs.All.{refl}
+use Rattle.machine.specs.All.{sym, ap}
 use Rattle.servers_laws.specs.Taking.{seize_rows}
 use Rattle.servers.proofs.taking.seize.Goals as goal
 
 pub returns : goal.returns
 unfolding seize_rows
 returns c =
-    rw (c.with_outcome.ensures, ← c.server_at-v.ensures.server, ← c.read-number.ensures)
-    (c.seize_one-outcome.ensures _ refl refl refl)
+    let same = c.scalars-s.ensures.same in
+    let number = rw c.row-k.ensures at c.read-number.ensures in
+    rw (c.with_outcome.ensures, same, ← c.server_at-v.ensures, ← number)
+    (c.take_units-outcome.ensures _ (sym c.row-k.ensures) (sym (ap (λ x. x.serial) same)) (sym (ap (λ x. x.clock) same)))

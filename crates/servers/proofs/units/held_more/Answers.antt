@@ -3,11 +3,11 @@ use Rattle.machine.specs.All.{eq-eqb, ne_eqb}
 use Rattle.servers_laws.specs.Units.{set_held, held_more}
 use Rattle.servers.proofs.units.held_more.Goals as goal
 
-pub returns-then-n-eq0 : goal.returns-then-n-eq0
+pub returns-then-n-ne0 : goal.returns-then-n-ne0
 unfolding held_more set_held
-returns-then-n-eq0 c = rw (eq-eqb _ 0 c.if-n-eq0.true)
+returns-then-n-ne0 c =
+    rw (ne_eqb _ 0 c.if-n-ne0.true, c.saturating_add.ensures, c.residue_cell-at.ensures.cell)
 
-pub returns : goal.returns
+pub returns-else-n-ne0 : goal.returns-else-n-ne0
 unfolding held_more set_held
-returns c =
-    rw (ne_eqb _ 0 c.if-n-eq0.false, c.plus64.ensures, c.residue_cell-at.ensures.cell)
+returns-else-n-ne0 c = rw (eq-eqb _ 0 c.if-n-ne0.false)

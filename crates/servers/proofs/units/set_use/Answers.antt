@@ -16,4 +16,5 @@ returns c =
       c.store_use.ensures,
       c.held_more.ensures,
       c.held_less.ensures,
+      c.index.ensures.same,
     )

@@ -1,38 +1,23 @@
--- `begins_group` meets its contract. The loop's invariant: the answer is that of the blocks from the c-th behind it on. The measure is what
--- is left of them.
-use Rattle.machine.specs.All.{arith, refl, sym, ◌∙◌}
+-- `begins_group` meets its contract. The invariant: the answer is that of the blocks from the c-th behind it on.
+use Rattle.machine.specs.All.{arith, sym, ◌∙◌}
 use Rattle.servers_laws.proofs.Begins.{look-found, look-other, look-next, look-end}
 use Rattle.servers.proofs.waiting.begins_group.Goals as goal
 
-pub loop-c-init : goal.loop-c-init
-loop-c-init c = (omega arith, omega arith, refl)
+pub returns-then-kind-number : goal.returns-then-kind-number
+returns-then-kind-number c =
+    rw c.number-then-kind-number.ensures
+    (look-found _ _ _ (omega arith) (sym c.number-kind.ensures ∙ c.if-kind-number.true ∙ c.number.ensures) ∙ c.loop-c.invariant)
 
-pub overflow_add-next : goal.overflow_add-next
-overflow_add-next c =
-    omega (arith, c.requires)
-
-pub number-kind-requires : goal.number-kind-requires
-number-kind-requires c = tt
-
-pub number-requires : goal.number-requires
-number-requires c = tt
-
-pub returns-then-kind-eq-JOINED_WAIT : goal.returns-then-kind-eq-JOINED_WAIT
-returns-then-kind-eq-JOINED_WAIT c =
-    rw c.number.ensures
-    (look-found _ _ _ c.loop-c-test.true (sym c.number-kind.ensures ∙ c.if-kind-eq-JOINED_WAIT.true) ∙ c.loop-c.invariant.2)
-
-pub returns-then-kind-ne-WAIT_SERVER : goal.returns-then-kind-ne-WAIT_SERVER
-returns-then-kind-ne-WAIT_SERVER c =
-    look-other _ _ _ _ c.loop-c-test.true c.number-kind.ensures c.if-kind-eq-JOINED_WAIT.false c.if-kind-ne-WAIT_SERVER.true
-    ∙ c.loop-c.invariant.2
+pub returns-then-kind-number-2 : goal.returns-then-kind-number-2
+returns-then-kind-number-2 c =
+    look-other _ _ _ _ (omega arith) c.number-kind.ensures (λ e. c.if-kind-number.false (e ∙ sym c.number.ensures))
+    (λ e. c.if-kind-number-2.true (e ∙ sym c.number-in-loop-c.ensures))
+    ∙ c.loop-c.invariant
 
 pub loop-c-preserved : goal.loop-c-preserved
-loop-c-preserved c = (
-  omega arith,
-  omega arith,
-  look-next _ _ _ c.loop-c-test.true (sym c.number-kind.ensures ∙ c.if-kind-ne-WAIT_SERVER.false) ∙ c.loop-c.invariant.2,
-)
+loop-c-preserved c =
+    look-next _ _ _ (omega arith) (sym c.number-kind.ensures ∙ c.if-kind-number-2.false ∙ c.number-in-loop-c.ensures)
+    ∙ c.loop-c.invariant
 
 pub returns : goal.returns
-returns c = look-end _ _ _ c.loop-c-test.false ∙ c.loop-c.invariant.2
+returns c = look-end _ _ _ (omega arith) ∙ c.loop-c.invariant

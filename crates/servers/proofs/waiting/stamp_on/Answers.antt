@@ -5,4 +5,5 @@ use Rattle.servers.proofs.waiting.stamp_on.Goals as goal
 pub returns : goal.returns
 unfolding stamp_on
 returns c =
-    rw (← c.set_time.ensures) c.go_on.ensures
+    let stamped = rw (c.row.ensures, c.scalars.ensures.same) at c.set_time.ensures in
+    rw (← stamped) c.go_on.ensures

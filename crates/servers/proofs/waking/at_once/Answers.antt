@@ -1,7 +1,14 @@
 -- `at_once` meets its contract: the tests in order.
-use Rattle.machine.specs.All.{sym, ◌∙◌, lt-ltb, le-ltb, eq-eqb, ne_eqb}
+use Rattle.std.specs.Prelude.{Option, None, Some, is_some}
+use Rattle.machine.specs.All.{ℕ, ◌≡◌, Bool, sym, ◌∙◌, arith, ltb, lt-ltb, le-ltb, eq-eqb, ne_eqb}
+use Rattle.rows_laws.specs.All.{IsRow, row_count}
 use Rattle.servers_laws.specs.Waking.{many, at_once_lem}
 use Rattle.servers.proofs.waking.at_once.Goals as goal
+
+-- is there a row?
+there : (n : ℕ) (o : Option ℕ) (b : Bool) → IsRow n o → is_some o ≡ b → ltb n row_count ≡ b
+there n None b none e = le-ltb n 1024 none ∙ e
+there n (Some k) b row e = lt-ltb n 1024 (omega (arith, row.0, row.1)) ∙ e
 
 pub returns-then-n-lt-MANY : goal.returns-then-n-lt-MANY
 unfolding at_once_lem
@@ -11,10 +18,14 @@ pub returns-then-edition-ne1 : goal.returns-then-edition-ne1
 unfolding at_once_lem
 returns-then-edition-ne1 c = rw (le-ltb _ many c.if-n-lt-MANY.false, ne_eqb _ 1 c.if-edition-ne1.true)
 
-pub returns-then-first-ge-ROWS : goal.returns-then-first-ge-ROWS
+pub returns-then-is_none : goal.returns-then-is_none
 unfolding at_once_lem
-returns-then-first-ge-ROWS c =
-    rw (le-ltb _ many c.if-n-lt-MANY.false, eq-eqb _ 1 c.if-edition-ne1.false, ← c.first.ensures, le-ltb _ 1024 c.if-first-ge-ROWS.true)
+returns-then-is_none c =
+    rw (
+      le-ltb _ many c.if-n-lt-MANY.false,
+      eq-eqb _ 1 c.if-edition-ne1.false,
+      there _ _ _ (rw c.queue.ensures at c.first.ensures) c.if-is_none.ensures,
+    )
 
 pub returns-then-not-ahead_of : goal.returns-then-not-ahead_of
 unfolding at_once_lem
@@ -22,8 +33,7 @@ returns-then-not-ahead_of c =
     rw (
       le-ltb _ many c.if-n-lt-MANY.false,
       eq-eqb _ 1 c.if-edition-ne1.false,
-      ← c.first.ensures,
-      lt-ltb _ 1024 c.if-first-ge-ROWS.false,
+      there _ _ _ (rw c.queue.ensures at c.first.ensures) c.if-is_none.ensures,
       sym c.ahead_of.ensures ∙ c.if-not-ahead_of.true,
     )
 
@@ -33,8 +43,7 @@ returns c =
     rw (
       le-ltb _ many c.if-n-lt-MANY.false,
       eq-eqb _ 1 c.if-edition-ne1.false,
-      ← c.first.ensures,
-      lt-ltb _ 1024 c.if-first-ge-ROWS.false,
+      there _ _ _ (rw c.queue.ensures at c.first.ensures) c.if-is_none.ensures,
       sym c.ahead_of.ensures ∙ c.if-not-ahead_of.false,
     )
     c.none_too_many.ensures

@@ -1,12 +1,13 @@
 -- `check_wel` meets its contract, by cases on the status.
+use Rattle.machine.specs.All.{sym, ◌∙◌}
 use Rattle.servers_laws.specs.Waking.{check_wel}
 use Rattle.servers.proofs.waking.check_wel.Goals as goal
 
-pub returns-then-status : goal.returns-then-status
+pub returns-then-not-holds : goal.returns-then-not-holds
 unfolding check_wel
-returns-then-status c = rw (← c.status.ensures, c.if-status.true)
+returns-then-not-holds c =
+    rw (sym c.holds.ensures ∙ c.if-not-holds.true, ← c.number.ensures.same, ← c.watching.ensures) c.wake_first.ensures
 
-pub returns : goal.returns
+pub returns-else-not-holds : goal.returns-else-not-holds
 unfolding check_wel
-returns c =
-    rw (← c.status.ensures, c.if-status.false) c.wake_first.ensures
+returns-else-not-holds c = rw (sym c.holds.ensures ∙ c.if-not-holds.false)

@@ -7,6 +7,6 @@ pub returns-then-edition-eq1 : goal.returns-then-edition-eq1
 unfolding leave_with
 returns-then-edition-eq1 c = rw (eq-eqb _ 1 c.if-edition-eq1.true)
 
-pub returns : goal.returns
+pub returns-else-edition-eq1 : goal.returns-else-edition-eq1
 unfolding leave_with
-returns c = rw (ne_eqb _ 1 c.if-edition-eq1.false)
+returns-else-edition-eq1 c = rw (ne_eqb _ 1 c.if-edition-eq1.false)

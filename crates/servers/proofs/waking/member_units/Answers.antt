@@ -4,4 +4,4 @@ use Rattle.servers.proofs.waking.member_units.Goals as goal
 
 pub returns : goal.returns
 unfolding member_units
-returns c = rw (c.units_at.ensures, c.less32-block.ensures, c.read.ensures)
+returns c = cc

@@ -1,4 +1,4 @@
--- `none_too_many` meets its contract. The invariant: the blocks from here on tell it. The measure: the blocks left.
+-- `none_too_many` meets its contract. The invariant: the blocks from here on tell it.
 use Rattle.machine.specs.All.{ℕ, zero, suc, ◌+◌, ◌*◌, ◌<◌, ◌≡◌, ◌≢◌, refl, sym, ◌∙◌, true, false, List, arith, eq-eqb, ne_eqb, get_or}
 use Rattle.servers_laws.specs.Waking.{too_many_lem, none_too_many}
 use Rattle.servers.proofs.waking.none_too_many.Goals as goal
@@ -23,28 +23,23 @@ module _ (tables : List ℕ) (b v left : ℕ) where
   unfolding none_too_many
   none-next n m e is found = rw (e, ne_eqb _ 0 is, found)
 
-pub loop-b-init : goal.loop-b-init
-loop-b-init c = (refl, omega arith)
-
 pub returns-then-number-eq0 : goal.returns-then-number-eq0
 returns-then-number-eq0 c =
-    sym (none-stop _ _ _ _ _ (sym c.number.ensures ∙ c.if-number-eq0.true)) ∙ c.loop-b.invariant.0
+    sym (none-stop _ _ _ _ _ (sym c.number.ensures ∙ c.if-number-eq0.true)) ∙ c.loop-b.invariant
 
 pub returns-then-too_many : goal.returns-then-too_many
 returns-then-too_many c =
     sym
     (none_found _ _ _ _ _ (omega arith) (λ e. c.if-number-eq0.false (c.number.ensures ∙ e))
     (sym c.too_many.ensures ∙ c.if-too_many.true))
-    ∙ c.loop-b.invariant.0
+    ∙ c.loop-b.invariant
 
 pub loop-b-preserved : goal.loop-b-preserved
-loop-b-preserved c = (
-  sym
-      (none-next _ _ _ _ _ _ (omega arith) (λ e. c.if-number-eq0.false (c.number.ensures ∙ e))
-      (sym c.too_many.ensures ∙ c.if-too_many.false))
-      ∙ c.loop-b.invariant.0,
-  omega arith,
-)
+loop-b-preserved c =
+    sym
+    (none-next _ _ _ _ _ _ (omega arith) (λ e. c.if-number-eq0.false (c.number.ensures ∙ e))
+    (sym c.too_many.ensures ∙ c.if-too_many.false))
+    ∙ c.loop-b.invariant
 
 pub returns : goal.returns
-returns c = sym (none_end _ _ _ _ _ (omega arith)) ∙ c.loop-b.invariant.0
+returns c = sym (none_end _ _ _ _ _ (omega arith)) ∙ c.loop-b.invariant

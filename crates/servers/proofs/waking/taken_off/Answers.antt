@@ -7,6 +7,6 @@ pub returns-then-left-units : goal.returns-then-left-units
 unfolding taken_off
 returns-then-left-units c = rw (lt-ltb _ _ c.if-left-units.true)
 
-pub returns : goal.returns
+pub returns-else-left-units : goal.returns-else-left-units
 unfolding taken_off
-returns c = rw (le-ltb _ _ c.if-left-units.false)
+returns-else-left-units c = rw (le-ltb _ _ c.if-left-units.false)

@@ -2,10 +2,6 @@
 use Rattle.servers_laws.specs.Waking.{shorter}
 use Rattle.servers.proofs.waking.wake_first_ql.Goals as goal
 
-pub returns : goal.returns
+pub returns-clause-lengths : goal.returns-clause-lengths
 unfolding shorter
-returns c =
-    record {
-      rows = c.wake_first.ensures;
-      lengths = rw (c.set_count.ensures, c.less64-n.ensures, c.count.ensures);
-    }
+returns-clause-lengths c = cc

@@ -6,7 +6,7 @@ pub returns-then-at_once : goal.returns-then-at_once
 unfolding woken_rows woken_length
 returns-then-at_once c =
     record {
-      rows = rw (← c.at_once.ensures, c.if-at_once.true) c.wake_whole.ensures;
+      rows = rw (← c.at_once.ensures, c.if-at_once.true) (rw c.queue.ensures at c.wake_whole.ensures);
       stays = rw (← c.at_once.ensures, c.if-at_once.true);
     }
 

@@ -4,13 +4,8 @@ use Rattle.state.proofs.statistics.longest_now.Goals as goal
 
 pub returns-then-behind : goal.returns-then-behind
 unfolding longest_now
-returns-then-behind c = rw (
-  ← c.behind.ensures,
-  c.if-behind.true,
-  ← c.count.ensures,
-  ← c.count-then-behind.ensures,
-)
-    c.larger.ensures
+returns-then-behind c =
+    rw (← c.behind.ensures, c.if-behind.true, ← c.count.ensures, ← c.count-then-behind.ensures) c.max.ensures
 
 pub returns : goal.returns
 unfolding longest_now

@@ -5,9 +5,9 @@ use Rattle.state.proofs.statistics.sum_now.Goals as goal
 pub returns : goal.returns
 unfolding sum_now
 returns c = rw (
+  ← c.count-sum.ensures,
   ← c.count.ensures,
-  ← c.count-2.ensures,
   ← c.ticks_since-ticks.ensures.0,
   ← c.product.ensures,
 )
-    c.plus64.ensures
+    c.saturating_add.ensures

@@ -2,7 +2,7 @@
 -- doubles.
 use Rattle.machine.specs.All.{ℕ, ◌+◌, ◌-◌, ◌≤◌, ◌<◌, List, length}
 use Rattle.floats.specs.{Limits.draw_parts, Value.Is}
-use Rattle.tapes_laws.specs.{Source.Point, Held.Points}
+use Rattle.tapes_laws.specs.{declared.Point.Point, Held.Points}
 use Rattle.tapes_laws.proofs.Drawing.{Here}
 use Rattle.tapes.proofs.draw.segment.Given as goal
 

@@ -1,34 +1,31 @@
 -- `tapes::choose` meets its contract: kind by kind.
-use Rattle.machine.specs.All.{eq-eqb, ne_eqb}
-use Rattle.tapes_laws.specs.Given.{source_at}
+use Rattle.machine.specs.All.{sym, ◌∙◌}
+use Rattle.tapes_laws.proofs.Lists.{kind-none, kind-points, kind-curve, kind-fixed, kind-spread}
 use Rattle.tapes.proofs.given.choose.Goals as goal
 
-pub returns-then-kind-eq2 : goal.returns-then-kind-eq2
-unfolding source_at
-returns-then-kind-eq2 c =
-    rw (eq-eqb _ 2 c.if-kind-eq2.true) c.curve.ensures
+pub returns-in_err-of : goal.returns-in_err-of
+returns-in_err-of c = rw c.from_residual.ensures (kind-none _ _ _ _ (rw c.in_err-of.was at c.of.ensures))
+
+pub returns-in-Curve : goal.returns-in-Curve
+returns-in-Curve c =
+    let h = rw c.in_ok-of.was at c.of.ensures in kind-curve _ _ _ _ _ (rw c.in-Curve.is at h) c.curve.ensures
 
 pub returns-then-points-ne0 : goal.returns-then-points-ne0
-unfolding source_at
 returns-then-points-ne0 c =
-    rw (ne_eqb _ 2 c.if-kind-eq2.false, ne_eqb _ 0 c.if-points-ne0.true) tt
+    let h = rw c.in_ok-of.was at c.of.ensures in
+    kind-points _ _ _ _ _ h (λ e. let never = sym c.in-Fixed.is ∙ e in cc) c.if-points-ne0.true
 
-pub returns-then-kind-eq0 : goal.returns-then-kind-eq0
-unfolding source_at
-returns-then-kind-eq0 c =
-    rw (ne_eqb _ 2 c.if-kind-eq2.false, eq-eqb _ 0 c.if-points-ne0.false, eq-eqb _ 0 c.if-kind-eq0.true) c.fixed.ensures
+pub returns-then-points-ne0-2 : goal.returns-then-points-ne0-2
+returns-then-points-ne0-2 c =
+    let h = rw c.in_ok-of.was at c.of.ensures in
+    kind-points _ _ _ _ _ h (λ e. let never = sym c.in-Spread.is ∙ e in cc) c.if-points-ne0-2.true
 
-pub returns-then-kind-eq1 : goal.returns-then-kind-eq1
-unfolding source_at
-returns-then-kind-eq1 c =
-    rw (
-      ne_eqb _ 2 c.if-kind-eq2.false,
-      eq-eqb _ 0 c.if-points-ne0.false,
-      ne_eqb _ 0 c.if-kind-eq0.false,
-      eq-eqb _ 1 c.if-kind-eq1.true,
-    ) c.spread.ensures
+pub returns-else-points-ne0 : goal.returns-else-points-ne0
+returns-else-points-ne0 c =
+    let h = rw c.in_ok-of.was at c.of.ensures in
+    kind-fixed _ _ _ _ _ (rw c.in-Fixed.is at h) c.if-points-ne0.false c.fixed.ensures
 
-pub returns : goal.returns
-unfolding source_at
-returns c =
-    rw (ne_eqb _ 2 c.if-kind-eq2.false, eq-eqb _ 0 c.if-points-ne0.false, ne_eqb _ 0 c.if-kind-eq0.false, ne_eqb _ 1 c.if-kind-eq1.false) tt
+pub returns-else-points-ne0-2 : goal.returns-else-points-ne0-2
+returns-else-points-ne0-2 c =
+    let h = rw c.in_ok-of.was at c.of.ensures in
+    kind-spread _ _ _ _ _ (rw c.in-Spread.is at h) c.if-points-ne0-2.false c.spread.ensures

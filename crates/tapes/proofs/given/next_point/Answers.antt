@@ -1,38 +1,21 @@
 -- `tapes::next_point` meets its contract.
-use Rattle.tapes_laws.specs.Answers.{point_of}
-use Rattle.tapes_laws.proofs.Curves.{pointed, unpointed, step-none, step_back, step_falls, step-taken, no_point, point-inside}
-use Rattle.machine.specs.All.{rules}
+use Rattle.machine.specs.All.{sym, ◌∙◌}
+use Rattle.tapes_laws.proofs.Curves.{step-none, step_back, step_falls, step-taken, point-inside}
 use Rattle.tapes.proofs.given.next_point.Goals as goal
 
-pub returns-in_default : goal.returns-in_default
-unfolding point_of
-returns-in_default c =
-    record {
-      result_value = step-none _ _ _ (unpointed c.point_at.ensures (search rules));
-      inside = λ v t. no_point;
-    }
+pub returns-in_err-p-clause-result_value : goal.returns-in_err-p-clause-result_value
+returns-in_err-p-clause-result_value c = rw c.from_residual.ensures (step-none _ _ _ (sym c.point_at.ensures ∙ c.in_err-p.was))
 
-pub returns-then-v-u : goal.returns-then-v-u
-unfolding point_of
-returns-then-v-u c =
-    record {
-      result_value = step_back _ _ _ (pointed c.point_at.ensures c.in-At.is) c.if-v-u.true;
-      inside = λ v t. no_point;
-    }
+pub returns-then-p-before-clause-result_value : goal.returns-then-p-before-clause-result_value
+returns-then-p-before-clause-result_value c = step_back _ _ _ (sym c.point_at.ensures ∙ c.in_ok-p.was) c.if-p-before.true
 
-pub returns-then-t-time : goal.returns-then-t-time
-unfolding point_of
-returns-then-t-time c =
-    record {
-      result_value = step_falls _ _ _ (pointed c.point_at.ensures c.in-At.is) c.if-v-u.false c.if-t-time.true;
-      inside = λ v t. no_point;
-    }
+pub returns-then-p-before-2-clause-result_value : goal.returns-then-p-before-2-clause-result_value
+returns-then-p-before-2-clause-result_value c =
+    step_falls _ _ _ (sym c.point_at.ensures ∙ c.in_ok-p.was) c.if-p-before.false c.if-p-before-2.true
 
-pub returns : goal.returns
-unfolding point_of
-returns c =
-    record {
-      result_value = step-taken _ _ _ (pointed c.point_at.ensures c.in-At.is) c.if-v-u.false c.if-t-time.false;
-      inside = λ v t e.
-          point-inside _ _ _ (pointed c.point_at.ensures c.in-At.is);
-    }
+pub returns-clause-result_value : goal.returns-clause-result_value
+returns-clause-result_value c =
+    step-taken _ _ _ (sym c.point_at.ensures ∙ c.in_ok-p.was) c.if-p-before.false c.if-p-before-2.false
+
+pub returns-clause-inside : goal.returns-clause-inside
+returns-clause-inside c p e = point-inside _ _ _ (sym c.point_at.ensures ∙ c.in_ok-p.was)

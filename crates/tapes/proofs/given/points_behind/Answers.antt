@@ -1,23 +1,21 @@
--- `tapes::points_behind` meets its contract. The invariant: the points that are left answer as all of them; the measure is their number.
-use Rattle.machine.specs.All.{arith, ◌∙◌, rules}
-use Rattle.tapes_laws.specs.{Answers.corner}
-use Rattle.tapes_laws.proofs.Curves.{pointed, unpointed, behind-stops, behind-goes, behind-ends}
+-- `tapes::points_behind` meets its contract.
+use Rattle.machine.specs.All.{ℕ, arith, ◌≡◌, ap, ◌-◌, ◌+◌, sym, ◌∙◌, rules}
+use Rattle.tapes_laws.specs.{Given.points_behind, Answers.is_given}
+use Rattle.tapes_laws.proofs.Curves.{behind-stops, behind-goes, behind-ends}
 use Rattle.tapes.proofs.given.points_behind.Goals as goal
 
+pub loop-init : goal.loop-init
+loop-init c =
+    let all : c.args.count - 0 ≡ c.args.count = omega arith in
+    ap (λ (n : ℕ). is_given (points_behind c.args.numbers.now n c.args.start c.args.first)) all
+
 pub returns-in_default : goal.returns-in_default
-returns-in_default c =
-    behind-stops _ _ _ _ (unpointed c.next_point.ensures.result_value (search rules)) c.loop-left-test.true
-    ∙ c.loop-left.invariant
+returns-in_default c = behind-stops _ _ _ _ (sym c.next_point.ensures.result_value ∙ (search rules)) (omega arith) ∙ c.loop.invariant
 
-pub overflow_add-at : goal.overflow_add-at
-overflow_add-at c =
-    omega (arith, c.next_point.ensures.inside _ _ c.in-At.is)
-
-pub loop-left-preserved : goal.loop-left-preserved
-loop-left-preserved c =
-    behind-goes _ _ _ _ _ (pointed c.next_point.ensures.result_value c.in-At.is) c.loop-left-test.true
-    ∙ c.loop-left.invariant
+pub loop-preserved : goal.loop-preserved
+loop-preserved c =
+    let less : c.args.count - (c.loop.counter + 1) ≡ c.args.count - c.loop.counter - 1 = omega arith in
+    rw less (behind-goes _ _ _ _ _ (sym c.next_point.ensures.result_value ∙ c.in-Some.is) (omega arith)) ∙ c.loop.invariant
 
 pub returns : goal.returns
-returns c =
-    behind-ends _ _ _ (corner _ _) c.loop-left-test.false ∙ c.loop-left.invariant
+returns c = behind-ends _ _ _ c.loop.last (omega arith) ∙ c.loop.invariant

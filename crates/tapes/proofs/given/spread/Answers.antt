@@ -1,36 +1,32 @@
 -- `tapes::spread` meets its contract: each of the questions in turn.
-use Rattle.tapes_laws.proofs.Reading.{counted, uncounted, time-inside, spread_no_mean, spread_no_half, spread_wide, spread-late, spread-taken}
-use Rattle.machine.specs.All.{rules}
+use Rattle.machine.specs.All.{sym, ◌∙◌}
+use Rattle.tapes_laws.proofs.Reading.{time-inside, spread_no_mean, spread_no_half, spread_wide, spread-late, spread-taken}
 use Rattle.tapes.proofs.given.spread.Goals as goal
 
-pub returns-in_default : goal.returns-in_default
-returns-in_default c =
-    spread_no_mean _ _ (uncounted c.time_at.ensures (search rules))
+pub returns-in_err-mean : goal.returns-in_err-mean
+returns-in_err-mean c = rw c.from_residual.ensures (spread_no_mean _ _ (sym c.count_at.ensures ∙ c.in_err-mean.was))
 
-pub returns-in_default-time_at : goal.returns-in_default-time_at
-returns-in_default-time_at c =
-    spread_no_half _ _ (counted c.time_at.ensures c.in-Count.is)
-    (uncounted c.time_at-2.ensures (search rules))
+pub returns-in_err-half : goal.returns-in_err-half
+returns-in_err-half c =
+    rw c.from_residual-in_err-half.ensures
+    (spread_no_half _ _ (sym c.count_at.ensures ∙ c.in_ok-mean.was) (sym c.count_at-2.ensures ∙ c.in_err-half.was))
 
 pub returns-then-mean-half : goal.returns-then-mean-half
 returns-then-mean-half c =
-    spread_wide _ _ (counted c.time_at.ensures c.in-Count.is)
-    (counted c.time_at-2.ensures c.in-Count-time_at.is) c.if-mean-half.true
+    spread_wide _ _ (sym c.count_at.ensures ∙ c.in_ok-mean.was) (sym c.count_at-2.ensures ∙ c.in_ok-half.was) c.if-mean-half.true
 
 pub returns-then-mean-gt-MAX_MEAN_PARTS : goal.returns-then-mean-gt-MAX_MEAN_PARTS
 returns-then-mean-gt-MAX_MEAN_PARTS c =
-    spread-late _ _ (counted c.time_at.ensures c.in-Count.is)
-    (counted c.time_at-2.ensures c.in-Count-time_at.is) c.if-mean-half.false c.if-mean-gt-MAX_MEAN_PARTS.true
+    spread-late _ _ (sym c.count_at.ensures ∙ c.in_ok-mean.was) (sym c.count_at-2.ensures ∙ c.in_ok-half.was)
+    c.if-mean-half.false c.if-mean-gt-MAX_MEAN_PARTS.true
 
 pub bounds-numbers-at : goal.bounds-numbers-at
-bounds-numbers-at c =
-    time-inside _ _ (counted c.time_at.ensures c.in-Count.is)
+bounds-numbers-at c = time-inside _ _ (sym c.count_at.ensures ∙ c.in_ok-mean.was)
 
 pub bounds-numbers-at-2 : goal.bounds-numbers-at-2
-bounds-numbers-at-2 c =
-    time-inside _ _ (counted c.time_at-2.ensures c.in-Count-time_at.is)
+bounds-numbers-at-2 c = time-inside _ _ (sym c.count_at-2.ensures ∙ c.in_ok-half.was)
 
 pub returns : goal.returns
 returns c =
-    spread-taken _ _ (counted c.time_at.ensures c.in-Count.is)
-    (counted c.time_at-2.ensures c.in-Count-time_at.is) c.if-mean-half.false c.if-mean-gt-MAX_MEAN_PARTS.false
+    spread-taken _ _ (sym c.count_at.ensures ∙ c.in_ok-mean.was) (sym c.count_at-2.ensures ∙ c.in_ok-half.was)
+    c.if-mean-half.false c.if-mean-gt-MAX_MEAN_PARTS.false

@@ -1,5 +1,4 @@
 -- `after_taking` meets its contract: the block with its record, are they asked, the WS scheme.
-use Rattle.machine.specs.All.{rules}
 use Rattle.turn_laws.proofs.Parts.{after-turned}
 use Rattle.turn.proofs.acting.after_taking.Goals as goal
 

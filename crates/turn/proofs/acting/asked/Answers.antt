@@ -1,5 +1,5 @@
 -- `asked` meets its contract: the clock first, then the block of whoever moved.
-use Rattle.machine.specs.All.{lt-ltb, le-ltb, rules}
+use Rattle.machine.specs.All.{lt-ltb, le-ltb}
 use Rattle.turn_laws.specs.Turn.{asks}
 use Rattle.turn.proofs.acting.asked.Goals as goal
 
@@ -11,7 +11,7 @@ returns-then-clock_asked c =
 pub returns-then-b-ge-MAX_BLOCKS : goal.returns-then-b-ge-MAX_BLOCKS
 unfolding asks
 returns-then-b-ge-MAX_BLOCKS c =
-    rw (← c.clock_asked.ensures, c.if-clock_asked.false, ← c.less32-b.ensures, le-ltb _ 256 c.if-b-ge-MAX_BLOCKS.true)
+    rw (← c.clock_asked.ensures, c.if-clock_asked.false, ← c.saturating_sub-b.ensures, le-ltb _ 256 c.if-b-ge-MAX_BLOCKS.true)
 
 pub returns : goal.returns
 unfolding asks
@@ -19,7 +19,7 @@ returns c =
     rw (
       ← c.clock_asked.ensures,
       c.if-clock_asked.false,
-      ← c.less32-b.ensures,
+      ← c.saturating_sub-b.ensures,
       lt-ltb _ 256 c.if-b-ge-MAX_BLOCKS.false,
       ← c.number.ensures,
     )

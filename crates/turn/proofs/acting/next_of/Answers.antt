@@ -1,14 +1,14 @@
--- `next_of` meets its contract, by cases on the row.
-use Rattle.machine.specs.All.{lt-ltb, le-ltb, rules}
+-- `next_of` meets its contract, by who moves.
+use Rattle.machine.specs.All.{lt-ltb, le-ltb}
 use Rattle.turn_laws.specs.Turn.{next_of}
 use Rattle.turn.proofs.acting.next_of.Goals as goal
 
-pub returns-then-k-ge-ROWS : goal.returns-then-k-ge-ROWS
+pub returns-in-Some : goal.returns-in-Some
 unfolding next_of
-returns-then-k-ge-ROWS c =
-    rw (le-ltb _ 1024 c.if-k-ge-ROWS.true)
+returns-in-Some c =
+    rw (c.in-Some.ensures.0, lt-ltb _ 1024 c.in-Some.ensures.1) c.read.ensures
 
-pub returns : goal.returns
+pub returns-in-None : goal.returns-in-None
 unfolding next_of
-returns c =
-    rw (lt-ltb _ 1024 c.if-k-ge-ROWS.false) c.read.ensures
+returns-in-None c =
+    rw (le-ltb _ 1024 c.in-None.ensures)

@@ -1,14 +1,24 @@
 -- `note_record` meets its contract: a count, then the record's bytes.
-use Rattle.machine.specs.All.{le-ltb, rules}
+use Rattle.machine.specs.All.{◌<◌, ◌≢◌, refl, arith, le-ltb}
+use Rattle.state.specs.Notes.{note_number}
+use Rattle.state.specs.declared.scalars.Note.{Note}
+use Rattle.state.specs.declared.scalars.Note.TheVariants.{Entered, Waits, NoRecord}
 use Rattle.turn_laws.specs.Note.{note_record}
 use Rattle.turn_laws.proofs.Notes.{notes}
 use Rattle.turn.proofs.note.note_record.Goals as goal
 
-pub returns-then-outcome-ge-NO_RECORD : goal.returns-then-outcome-ge-NO_RECORD
+-- there is a record
+low : (o : Note) → o ≢ NoRecord → note_number o < 2
+low Entered d = omega arith
+low Waits d = omega arith
+low NoRecord d = absurd (d refl)
+
+pub returns-in-NoRecord : goal.returns-in-NoRecord
 unfolding note_record
-returns-then-outcome-ge-NO_RECORD c =
-    rw (le-ltb _ 2 c.if-outcome-ge-NO_RECORD.true)
+returns-in-NoRecord c = rw (le-ltb c.args.x.note 2 (omega (arith, c.in-NoRecord.ensures)))
 
 pub returns : goal.returns
 returns c =
-    notes _ _ _ _ _ _ _ _ c.if-outcome-ge-NO_RECORD.false c.count_record.ensures c.append_record-used.ensures
+    let is = c.note-outcome.ensures in
+    notes _ _ _ _ _ _ _ _ (rw is at (low _ c.in_default.not-NoRecord)) (rw is at c.count_record.ensures)
+    (rw is at c.append_record-used.ensures)

@@ -1,13 +1,13 @@
 -- `crowded` meets its contract.
-use Rattle.machine.specs.All.{rules}
 use Rattle.turn_laws.specs.Staying.{crowded}
 use Rattle.turn.proofs.staying.crowded.Goals as goal
 
-pub returns-then-behind : goal.returns-then-behind
+pub returns-then-not-behind : goal.returns-then-not-behind
 unfolding crowded
-returns-then-behind c =
-    rw (← c.server_of-v.ensures.server, ← c.behind.ensures, c.if-behind.true)
+returns-then-not-behind c =
+    rw (← c.server_of-v.ensures, ← c.index.ensures.same, ← c.if-not-behind.ensures) c.short.ensures
 
-pub returns : goal.returns
-returns c =
-    unfold crowded in rw (← c.server_of-v.ensures.server, ← c.behind.ensures, c.if-behind.false) c.short.ensures
+pub returns-else-not-behind : goal.returns-else-not-behind
+unfolding crowded
+returns-else-not-behind c =
+    rw (← c.server_of-v.ensures, ← c.index.ensures.same, ← c.if-not-behind.ensures, c.if-not-behind.false)

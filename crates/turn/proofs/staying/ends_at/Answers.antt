@@ -1,40 +1,54 @@
 -- `ends_at` meets its contract, question by question.
-use Rattle.machine.specs.All.{lt-ltb, le-ltb, eq-eqb, ne_eqb, rules}
+use Rattle.machine.specs.All.{eqb, sym, lt-ltb, le-ltb, eq-eqb, ne_eqb, not-true, not-false}
+use Rattle.rows_laws.specs.All.{links}
 use Rattle.turn_laws.specs.Staying.{ends_at}
 use Rattle.turn.proofs.staying.ends_at.Goals as goal
 
-pub returns-then-c-v : goal.returns-then-c-v
+pub returns-then-c-head : goal.returns-then-c-head
 unfolding ends_at
-returns-then-c-v c =
-    rw (eq-eqb _ _ c.if-c-v.true)
+returns-then-c-head c =
+    rw (← c.queue.ensures, ← c.head.ensures.cell, eq-eqb _ _ c.if-c-head.true)
 
 pub returns-then-c-lt-LINKS : goal.returns-then-c-lt-LINKS
 unfolding ends_at
 returns-then-c-lt-LINKS c =
-    rw (ne_eqb _ _ c.if-c-v.false, lt-ltb _ 13416 c.if-c-lt-LINKS.true)
+    rw (← c.queue.ensures, ← c.head.ensures.cell, ne_eqb _ _ c.if-c-head.false, lt-ltb _ links c.if-c-lt-LINKS.true)
 
-pub returns-then-j-ge-ROWS : goal.returns-then-j-ge-ROWS
+pub returns-then-ne : goal.returns-then-ne
 unfolding ends_at
-returns-then-j-ge-ROWS c =
-    rw (ne_eqb _ _ c.if-c-v.false, le-ltb _ 13416 c.if-c-lt-LINKS.false, le-ltb _ 1024 c.if-j-ge-ROWS.true)
-
-pub returns-then-j-k : goal.returns-then-j-k
-returns-then-j-k c =
-    unfold ends_at in
+returns-then-ne c =
     rw (
-      ne_eqb _ _ c.if-c-v.false,
-      le-ltb _ 13416 c.if-c-lt-LINKS.false,
-      lt-ltb _ 1024 c.if-j-ge-ROWS.false,
-      eq-eqb _ _ c.if-j-k.true,
+      ← c.queue.ensures,
+      ← c.head.ensures.cell,
+      ne_eqb _ _ c.if-c-head.false,
+      le-ltb _ links c.if-c-lt-LINKS.false,
+      c.in-Some.ensures.0,
+      lt-ltb _ 1024 c.in-Some.ensures.1,
+      not-true (eqb c.in-Some.j c.args.k) (sym c.if-ne.ensures),
+      c.outranks.ensures,
     )
 
-pub returns : goal.returns
-returns c =
-    unfold ends_at in
+pub returns-else-ne : goal.returns-else-ne
+unfolding ends_at
+returns-else-ne c =
     rw (
-      ne_eqb _ _ c.if-c-v.false,
-      le-ltb _ 13416 c.if-c-lt-LINKS.false,
-      lt-ltb _ 1024 c.if-j-ge-ROWS.false,
-      ne_eqb _ _ c.if-j-k.false,
-      c.outranks.ensures,
+      ← c.queue.ensures,
+      ← c.head.ensures.cell,
+      ne_eqb _ _ c.if-c-head.false,
+      le-ltb _ links c.if-c-lt-LINKS.false,
+      c.in-Some.ensures.0,
+      lt-ltb _ 1024 c.in-Some.ensures.1,
+      not-false (eqb c.in-Some.j c.args.k) (sym c.if-ne.ensures),
+    )
+    c.if-ne.false
+
+pub returns-in-None : goal.returns-in-None
+unfolding ends_at
+returns-in-None c =
+    rw (
+      ← c.queue.ensures,
+      ← c.head.ensures.cell,
+      ne_eqb _ _ c.if-c-head.false,
+      le-ltb _ links c.if-c-lt-LINKS.false,
+      le-ltb _ 1024 c.in-None.ensures,
     )

@@ -1,9 +1,8 @@
 -- `lengthen` meets its contract.
-use Rattle.machine.specs.All.{◌∙◌, rules}
 use Rattle.turn_laws.specs.Staying.{lengthened_by}
 use Rattle.turn.proofs.staying.lengthen.Goals as goal
 
 pub returns : goal.returns
+unfolding lengthened_by
 returns c =
-    unfold lengthened_by in c.set_count.ensures
-    ∙ rw (c.plus64-m.ensures, c.count.ensures, c.server_of.ensures.server)
+    rw (c.set_count.ensures, c.saturating_add-m.ensures, c.count.ensures, c.index-at.ensures.same, c.server_of.ensures)

@@ -1,14 +1,14 @@
 -- `stay` meets its contract, by cases on whether there is a first.
-use Rattle.machine.specs.All.{◌∙◌, lt-ltb, le-ltb, rules}
+use Rattle.machine.specs.All.{lt-ltb, le-ltb}
+use Rattle.rows_laws.specs.All.{remove_at}
 use Rattle.turn_laws.specs.Staying.{stayed}
 use Rattle.turn.proofs.staying.stay.Goals as goal
 
-pub returns-then-k-ge-ROWS : goal.returns-then-k-ge-ROWS
+pub returns-in-Some : goal.returns-in-Some
 unfolding stayed
-returns-then-k-ge-ROWS c =
-    rw (← c.first-k.ensures, le-ltb _ 1024 c.if-k-ge-ROWS.true)
+returns-in-Some c =
+    rw (c.in-Some.ensures.row.0, lt-ltb _ 1024 c.in-Some.ensures.row.1, ← c.in-Some.ensures.rows) c.put.ensures
 
-pub returns : goal.returns
-unfolding stayed
-returns c =
-    rw (← c.first-k.ensures, lt-ltb _ 1024 c.if-k-ge-ROWS.false) (c.put.ensures ∙ rw c.take_first.ensures.rows)
+pub returns-in_default : goal.returns-in_default
+unfolding stayed remove_at
+returns-in_default c = rw (c.in_default.ensures.rows, le-ltb _ 1024 c.in_default.ensures.row)

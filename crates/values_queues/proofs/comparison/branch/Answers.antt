@@ -6,9 +6,10 @@ use Rattle.values_queues.proofs.comparison.branch.Goals as goal
 pub returns-then-holds : goal.returns-then-holds
 unfolding branch_rows
 returns-then-holds c =
-    rw (← c.holds.ensures, c.if-holds.true) (c.go_to.ensures ∙ rw c.number.ensures)
+    let holds = rw (c.scalars.ensures.same, c.row-k.ensures) at c.holds.ensures in
+    rw (← holds, c.if-holds.true) (c.go_to.ensures ∙ rw c.number.ensures)
 
 pub returns : goal.returns
 unfolding branch_rows
 returns c =
-    rw (← c.holds.ensures, c.if-holds.false) c.go_on.ensures
+    let holds = rw (c.scalars.ensures.same, c.row-k.ensures) at c.holds.ensures in rw (← holds, c.if-holds.false) c.go_on.ensures

@@ -3,11 +3,10 @@ use Rattle.machine.specs.All.{lt-ltb, le-ltb}
 use Rattle.values_queues_laws.specs.Comparison.{set_parameter}
 use Rattle.values_queues.proofs.comparison.set_parameter.Goals as goal
 
-pub returns-then-i-ge-PARAMETERS : goal.returns-then-i-ge-PARAMETERS
+pub returns-then-i-lt-PARAMETERS : goal.returns-then-i-lt-PARAMETERS
 unfolding set_parameter
-returns-then-i-ge-PARAMETERS c = rw (le-ltb _ 4 c.if-i-ge-PARAMETERS.true)
+returns-then-i-lt-PARAMETERS c = rw (lt-ltb _ 4 c.if-i-lt-PARAMETERS.true) c.write.ensures
 
-pub returns : goal.returns
+pub returns-else-i-lt-PARAMETERS : goal.returns-else-i-lt-PARAMETERS
 unfolding set_parameter
-returns c =
-    rw (lt-ltb _ 4 c.if-i-ge-PARAMETERS.false) c.write.ensures
+returns-else-i-lt-PARAMETERS c = rw (le-ltb _ 4 c.if-i-lt-PARAMETERS.false)

@@ -5,9 +5,9 @@ use Rattle.values_queues.proofs.comparison.wait_terms.Goals as goal
 pub returns-then-held : goal.returns-then-held
 unfolding wait_terms_rows
 returns-then-held c =
-    rw (← c.held.ensures, c.if-held.true) c.wait_on.ensures
+    let held = rw (c.scalars.ensures.same, c.row-k.ensures) at c.held.ensures in rw (← held, c.if-held.true) c.wait_on.ensures
 
 pub returns : goal.returns
 unfolding wait_terms_rows
 returns c =
-    rw (← c.held.ensures, c.if-held.false) c.go_on.ensures
+    let held = rw (c.scalars.ensures.same, c.row-k.ensures) at c.held.ensures in rw (← held, c.if-held.false) c.go_on.ensures

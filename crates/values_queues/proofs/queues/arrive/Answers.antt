@@ -5,4 +5,4 @@ use Rattle.values_queues.proofs.queues.arrive.Goals as goal
 pub returns : goal.returns
 unfolding arrive_rows
 returns c =
-    rw (← c.queue_at-q.ensures.queue, ← c.count.ensures, ← c.plus64.ensures) c.change.ensures
+    rw (← c.queue_at-q.ensures.queue, ← c.count.ensures, ← c.saturating_add.ensures) c.change.ensures

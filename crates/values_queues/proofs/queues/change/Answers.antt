@@ -7,4 +7,4 @@ use Rattle.values_queues.proofs.queues.change.Goals as goal
 pub returns : goal.returns
 unfolding change
 returns c =
-    tallied _ _ _ _ _ c.go_on.ensures (c.set_count.ensures ∙ rw c.update_queue.ensures)
+    tallied _ _ _ _ _ c.go_on.ensures (c.set_count.ensures ∙ rw (c.update_queue.ensures, c.scalars.ensures.same))

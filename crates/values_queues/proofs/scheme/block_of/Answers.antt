@@ -6,6 +6,6 @@ use Rattle.values_queues.proofs.scheme.block_of.Goals as goal
 pub returns : goal.returns
 unfolding block_of
 returns c = record {
-  block = rw (c.less32-i.ensures, c.read.ensures);
+  block = rw (c.saturating_sub-i.ensures, c.read.ensures);
   most = omega arith;
 }

@@ -1,6 +1,6 @@
 -- `for_all` meets its contract, by cases on whether a parameter is named.
 use Rattle.machine.specs.All.{arith, sym, ◌∙◌}
-use Rattle.values_queues_laws.proofs.Sharing.{own-inside, for-all-none, for-all_bits}
+use Rattle.values_queues_laws.proofs.Sharing.{own-inside, for-all-none, for-all_bits, bits-of}
 use Rattle.values_queues.proofs.sides.for_all.Goals as goal
 
 pub returns-then-names_own : goal.returns-then-names_own
@@ -12,4 +12,4 @@ term_at-requires c = omega (arith, own-inside _ _ (sym c.names_own.ensures ∙ c
 pub returns : goal.returns
 returns c =
     for-all_bits (sym c.names_own.ensures ∙ c.if-names_own.false) _ c.term_at.type_inv c.term_at.ensures _
-    c.bits.ensures
+    (bits-of _ c.term_at.type_inv c.cast_unsigned.ensures)

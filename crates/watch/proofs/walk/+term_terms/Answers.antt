@@ -1,5 +1,5 @@
 -- The proof of the cycle of calls: a term and the terms of a bracket call each other. The measure: brackets that may open, then terms left.
-use Rattle.machine.specs.All.{sym}
+use Rattle.machine.specs.All.{sym, arith}
 use Rattle.watch.proofs.Steps.{term-past, term_simple, term_deep, term-comparison, term-bracket, terms-none, terms-past, terms-more}
 use Rattle.watch.proofs.walk.+term_terms.Goals as goal
 
@@ -8,7 +8,8 @@ term-returns-then-tables-at t c = sym (term-past _ _ _ _ _ c.if-tables-at.true)
 
 pub term-returns-then-tag-lt-COMPARISON_TAG : goal.term-returns-then-tag-lt-COMPARISON_TAG
 term-returns-then-tag-lt-COMPARISON_TAG t c =
-    rw c.mark.ensures
+    let same = c.of.ensures.known (omega arith) in
+    rw (c.mark.ensures, same)
     (sym (term_simple _ _ _ _ c.if-tables-at.false _ _
     c.number-tag.ensures c.number-n.ensures _
     c.if-tag-lt-COMPARISON_TAG.true))

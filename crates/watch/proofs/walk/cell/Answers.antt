@@ -1,73 +1,51 @@
--- `cell` meets its contract: each way is its line of the definition.
-use Rattle.machine.specs.All.{lt-ltb, le-ltb, eq-eqb, ne_eqb}
+-- `cell` meets its contract: each tag is its line of the definition.
+use Rattle.machine.specs.All.{inl, inr, lt-ltb, le-ltb}
 use Rattle.watch.specs.{cell_of}
 use Rattle.watch.proofs.walk.cell.Goals as goal
 
-pub returns-then-tag-lt2 : goal.returns-then-tag-lt2
+pub returns-in-Constant : goal.returns-in-Constant
 unfolding cell_of
-returns-then-tag-lt2 c =
-    rw (lt-ltb _ 2 c.if-tag-lt2.true)
+returns-in-Constant c = elim c.in-Constant.is [ inl e ↦ rw e | inr e ↦ rw e ]
 
-pub returns-then-tag-eq2 : goal.returns-then-tag-eq2
+pub returns-in-Parameter : goal.returns-in-Parameter
 unfolding cell_of
-returns-then-tag-eq2 c =
-    rw (le-ltb _ 2 c.if-tag-lt2.false, eq-eqb _ 2 c.if-tag-eq2.true)
+returns-in-Parameter c = rw c.in-Parameter.is
 
-pub returns-then-tag-eq3 : goal.returns-then-tag-eq3
+pub returns-in-Clock : goal.returns-in-Clock
 unfolding cell_of
-returns-then-tag-eq3 c =
-    rw (le-ltb _ 2 c.if-tag-lt2.false, ne_eqb _ 2 c.if-tag-eq2.false, eq-eqb _ 3 c.if-tag-eq3.true)
+returns-in-Clock c = rw c.in-Clock.is
 
-pub returns-then-tag-eq4 : goal.returns-then-tag-eq4
+pub returns-in-Entries : goal.returns-in-Entries
 unfolding cell_of
-returns-then-tag-eq4 c =
-    rw (le-ltb _ 2 c.if-tag-lt2.false, ne_eqb _ 2 c.if-tag-eq2.false, ne_eqb _ 3 c.if-tag-eq3.false, eq-eqb _ 4 c.if-tag-eq4.true)
+returns-in-Entries c = rw c.in-Entries.is
 
-pub returns-then-tag-eq5 : goal.returns-then-tag-eq5
-returns-then-tag-eq5 c =
-    unfold cell_of in
-    rw (
-      le-ltb _ 2 c.if-tag-lt2.false,
-      ne_eqb _ 2 c.if-tag-eq2.false,
-      ne_eqb _ 3 c.if-tag-eq3.false,
-      ne_eqb _ 4 c.if-tag-eq4.false,
-      eq-eqb _ 5 c.if-tag-eq5.true,
-    )
-
-pub returns-then-tag-lt-VALUE_TAG : goal.returns-then-tag-lt-VALUE_TAG
+pub returns-in-Content : goal.returns-in-Content
 unfolding cell_of
-returns-then-tag-lt-VALUE_TAG c =
-    rw (
-      le-ltb _ 2 c.if-tag-lt2.false,
-      ne_eqb _ 2 c.if-tag-eq2.false,
-      ne_eqb _ 3 c.if-tag-eq3.false,
-      ne_eqb _ 4 c.if-tag-eq4.false,
-      ne_eqb _ 5 c.if-tag-eq5.false,
-      lt-ltb _ 9 c.if-tag-lt-VALUE_TAG.true,
-    )
+returns-in-Content c = rw c.in-Content.is
+
+pub returns-in-UnitsInUse : goal.returns-in-UnitsInUse
+unfolding cell_of
+returns-in-UnitsInUse c =
+    elim c.in-UnitsInUse.is [ inl e ↦ rw e | inr f ↦ elim f [ inl e ↦ rw e | inr e ↦ rw e ] ]
 
 pub returns-then-i-lower : goal.returns-then-i-lower
 unfolding cell_of
 returns-then-i-lower c =
-    rw (
-      le-ltb _ 2 c.if-tag-lt2.false,
-      ne_eqb _ 2 c.if-tag-eq2.false,
-      ne_eqb _ 3 c.if-tag-eq3.false,
-      ne_eqb _ 4 c.if-tag-eq4.false,
-      ne_eqb _ 5 c.if-tag-eq5.false,
-      le-ltb _ 9 c.if-tag-lt-VALUE_TAG.false,
-      lt-ltb _ _ c.if-i-lower.true,
-    )
+    elim c.in-Value.is [
+      | inl e ↦ rw (e, lt-ltb _ _ c.if-i-lower.true)
+      | inr f ↦ elim f [
+        | inl e ↦ rw (e, lt-ltb _ _ c.if-i-lower.true)
+        | inr e ↦ rw (e, lt-ltb _ _ c.if-i-lower.true)
+      ]
+    ]
 
-pub returns : goal.returns
+pub returns-else-i-lower : goal.returns-else-i-lower
 unfolding cell_of
-returns c =
-    rw (
-      le-ltb _ 2 c.if-tag-lt2.false,
-      ne_eqb _ 2 c.if-tag-eq2.false,
-      ne_eqb _ 3 c.if-tag-eq3.false,
-      ne_eqb _ 4 c.if-tag-eq4.false,
-      ne_eqb _ 5 c.if-tag-eq5.false,
-      le-ltb _ 9 c.if-tag-lt-VALUE_TAG.false,
-      le-ltb _ _ c.if-i-lower.false,
-    )
+returns-else-i-lower c =
+    elim c.in-Value.is [
+      | inl e ↦ rw (e, le-ltb _ _ c.if-i-lower.false)
+      | inr f ↦ elim f [
+        | inl e ↦ rw (e, le-ltb _ _ c.if-i-lower.false)
+        | inr e ↦ rw (e, le-ltb _ _ c.if-i-lower.false)
+      ]
+    ]

@@ -1,9 +1,0 @@
--- `terms::evaluate::one_if` meets its contract.
-
-use Rattle.evaluation.proofs.evaluate.one_if.Goals as goal
-
-pub returns-then-holds : goal.returns-then-holds
-returns-then-holds c = rw c.if-holds.true
-
-pub returns-else-holds : goal.returns-else-holds
-returns-else-holds c = rw c.if-holds.false
