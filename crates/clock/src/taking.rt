@@ -8,7 +8,7 @@ use layout::{CLOCK_MOVES, count, set_count};
 use rows::cells::time;
 use rows::clock::arrive;
 use rows::lists::{first, take_first};
-use rows::{Chain, SERIAL_END, Work};
+use rows::{Chain, SERIAL_END};
 use state::{Mover, Scalars, by_fields};
 
 // One clock move more.
@@ -20,8 +20,9 @@ fn count_move(tally: &mut [u64])
 }
 
 // The clock moves to a time: the move is counted, and all of that time come from the FEL to REL.
-fn move_clock(work: &mut Work, tally: &mut [u64], x: Scalars, time: u64) -> Scalars
-    requires { x.serial < serial_end }
+fn move_clock(work: &mut [u32], tally: &mut [u64], x: Scalars, time: u64) -> Scalars
+    requires room { Room work.old }
+    requires serial_lt_serial_end { x.serial < serial_end }
     ensures { rows_of result work.new tally.new ≡ move_clock work.old tally.old x time }
 {
     let last = x.serial;
@@ -34,7 +35,8 @@ fn move_clock(work: &mut Work, tally: &mut [u64], x: Scalars, time: u64) -> Scal
 }
 
 // A clock move to the first time of the FEL, where it has one.
-fn next_events(work: &mut Work, tally: &mut [u64], x: Scalars) -> Scalars
+fn next_events(work: &mut [u32], tally: &mut [u64], x: Scalars) -> Scalars
+    requires room { Room work.old }
     ensures { rows_of result work.new tally.new ≡ next_events work.old tally.old x }
 {
     let Some(k) = first(work, Chain::FEL) else {
@@ -48,7 +50,8 @@ fn next_events(work: &mut Work, tally: &mut [u64], x: Scalars) -> Scalars
 }
 
 // The first of REL moves, where there is one.
-fn take_ready(work: &mut Work, x: Scalars) -> Scalars
+fn take_ready(work: &mut [u32], x: Scalars) -> Scalars
+    requires room { Room work.old }
     ensures scalars { result ≡ ready_scalars work.old x }
     ensures rows { work.new ≡ ready_work work.old }
 {
@@ -61,7 +64,8 @@ fn take_ready(work: &mut Work, x: Scalars) -> Scalars
 }
 
 // The taking of a turn, which counts.
-pub fn take(work: &mut Work, tally: &mut [u64], x: Scalars) -> Scalars
+pub fn take(work: &mut [u32], tally: &mut [u64], x: Scalars) -> Scalars
+    requires room { Room work.old }
     ensures { rows_of result work.new tally.new ≡ take work.old tally.old x }
 {
     let mut y = x;

@@ -21,3 +21,8 @@ cursor_at at numbers mentions = record { position = at; numbers = numbers; menti
 unfoldable pub parsed_of : ℕ → ℕ → Result (ℕ × ℕ) Refusal → Parsed ℕ
 parsed_of numbers mentions (Ok n) = parsed n.0 (cursor_at n.1 numbers mentions)
 parsed_of numbers mentions (Err r) = refused (refusal_number r)
+
+-- the same of a refusal that is a number
+unfoldable pub numbered : ℕ → ℕ → Result (ℕ × ℕ) ℕ → Parsed ℕ
+numbered numbers mentions (Ok n) = parsed n.0 (cursor_at n.1 numbers mentions)
+numbered numbers mentions (Err r) = refused r

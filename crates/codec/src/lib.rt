@@ -6,7 +6,7 @@
 ghost use Rattle.std.specs.Prelude.{◌≡◌, ◌+◌, ◌≤◌, ◌<◌};
 ghost use Rattle.constants.specs.Numbers.{refusal_number, malformed};
 ghost use Rattle.machine.specs.All.{cond, ℕ, leb, length, drop, sets, five_groups, max_number_bytes, max_report_number_bytes, max_report_number, groups, within, read_number, number_bytes, field_up_to};
-ghost use Rattle.codec.specs.Answers.{number_of, read_as, cursor_at, parsed_of};
+ghost use Rattle.codec.specs.Answers.{number_of, read_as, cursor_at, parsed_of, numbered};
 ghost use Rattle.codec.specs.Writing.{written, put};
 
 use constants::{Model, Refusal, Text};
@@ -65,7 +65,7 @@ pub fn read_report_number(s: &[u8], at: usize) -> Option<(u64, usize)>
 
 // A number from lo to hi and the position after it, or the refusal: the text's first for a number that is not whole, not
 // shortest or above `most`, its second for one out of range.
-pub fn read_field(
+pub fn read_text(
     s: &[u8],
     at: usize,
     most: u64,
@@ -82,6 +82,30 @@ pub fn read_field(
     };
     if v < lo || hi < v {
         return Err(text.out_of_range());
+    }
+    Ok((v, next))
+}
+
+// A number from lo to hi and the position after it, or the number of the refusal: `code` for a number that is not whole, not
+// shortest or above `most`, the next number for one out of range.
+pub fn read_field(
+    s: &[u8],
+    at: usize,
+    most: u64,
+    lo: u64,
+    hi: u64,
+    code: u8,
+) -> Result<(u64, usize), u32>
+    ensures by_index { (numbers mentions : ℕ) → numbered numbers mentions result
+        ≡ field_up_to most s.now code lo hi (cursor_at at numbers mentions) }
+    ensures inside { (v next : ℕ) → result ≡ Ok (v, next) → (lo ≤ v) × (v ≤ hi) × (at < next) × (next ≤ length s.now) }
+{
+    let malformed = code as u32;
+    let Some((v, next)) = read_number(s, at, most) else {
+        return Err(malformed);
+    };
+    if v < lo || hi < v {
+        return Err(malformed + 1);
     }
     Ok((v, next))
 }

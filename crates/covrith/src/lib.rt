@@ -69,11 +69,15 @@ pub fn covrith_run(
     ];
 }
 
-// The record at a position of a trace.
+// The record at a position of a trace. Asked first whether there is one: the answer of `trace::read_record` is large, and at the end of a
+// trace most of the time went into it.
 pub fn covrith_read_record(trace: &[u8], position: usize, numbers: &mut [u64; RECORD]) -> u32
     ensures value { result ≡ read_answer (read_record in_force trace.now position) }
     ensures numbers_after { numbers.new ≡ read_numbers (read_record in_force trace.now position) numbers.old }
 {
+    if trace.len() <= position {
+        return NO_MORE;
+    }
     match trace::read_record(trace, position) {
         Ok(Some((r, next))) => {
             *numbers = [r.clock, r.transaction, r.block, r.outcome, next as u64];

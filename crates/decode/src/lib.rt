@@ -16,7 +16,7 @@ ghost use Rattle.decode.specs.Models.{model_shape, Models};
 ghost use Rattle.decode.specs.Lists.{cursor_at, tape_field, Skips, Listed, Lists, empty_lists};
 ghost use Rattle.decode.specs.Decodes.{Decodes, refusal_of};
 
-use codec::read_field;
+use codec::read_text;
 use constants::{Model, Refusal, Text};
 use layout::{CAPACITIES, EDITION, LIST_CELLS, LIST_COUNTS, TABLES};
 use parse_values::{Place, number, values};
@@ -168,7 +168,7 @@ fn formed_model(s: &[u8], tables: &mut [u32; TABLES]) -> Result<Model, Refusal>
 fn tape_field(s: &[u8], at: usize, hi: usize) -> Result<(u64, usize), Refusal>
     ensures { (i j : ℕ) → parsed_of i j result ≡ tape_field s.now hi (cursor_at at i j) }
 {
-    read_field(s, at, Model::FIVE_GROUPS, 0, hi as u64, Text::Tape)
+    read_text(s, at, Model::FIVE_GROUPS, 0, hi as u64, Text::Tape)
 }
 
 // The times of a list.

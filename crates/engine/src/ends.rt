@@ -2,18 +2,18 @@
 // for a record.
 ghost use Rattle.constants.specs.Numbers.{end_number};
 ghost use Rattle.state.specs.All.{put_turns, put_end};
-ghost use Rattle.state.specs.Notes.{end_or_0};
 ghost use Rattle.std.specs.Prelude.{◌≡◌};
 ghost use Rattle.rows_laws.specs.All.{Room};
 ghost use Rattle.engine_laws.specs.Ends.{nobody_rows, worn_rows, full_rows, limit_rows, end_rows};
 
 use constants::{End, Model};
+use rows::Chain;
 use rows::lists::first;
-use rows::{Chain, Work};
 use state::{Mover, Scalars, Stopped};
 
 // Nobody moves, and REL and FEL are empty.
-fn nobody_left(work: &Work, moving: Mover) -> bool
+fn nobody_left(work: &[u32], moving: Mover) -> bool
+    requires room { Room work.now }
     ensures { result ≡ nobody_rows work.now moving }
 {
     if let Some(_) = moving.row() {
@@ -42,30 +42,31 @@ fn trace_full(used: usize, room: usize) -> bool
     room < Model::RECORD_ROOM || room - Model::RECORD_ROOM < used
 }
 
-fn limit(x: &Scalars, budget: u64, room: usize) -> Option<End>
-    ensures { end_or_0 result ≡ limit_rows x.now budget room }
+fn limit(x: &Scalars, budget: u64, room: usize) -> Stopped
+    ensures { result ≡ limit_rows x.now budget room }
 {
     if worn_out(x) {
-        return Some(End::WornOut);
+        return Stopped::at(End::WornOut);
     }
     if budget <= x.turns as u64 {
-        return Some(End::Budget);
+        return Stopped::at(End::Budget);
     }
     if trace_full(x.used, room) {
-        return Some(End::TraceFull);
+        return Stopped::at(End::TraceFull);
     }
-    None
+    Stopped::none()
 }
 
 // The end before the next turn, if there is one.
-pub fn end_before(work: &Work, x: &Scalars, budget: u64, room: usize) -> Option<End>
-    ensures { end_or_0 result ≡ end_rows work.now x.now budget room }
+pub fn end_before(work: &[u32], x: &Scalars, budget: u64, room: usize) -> Stopped
+    requires room { Room work.now }
+    ensures { result ≡ end_rows work.now x.now budget room }
 {
-    if let Some(end) = x.end.end() {
-        return Some(end);
+    if x.end.ended() {
+        return x.end;
     }
     if nobody_left(work, x.moving) {
-        return Some(End::Dry);
+        return Stopped::at(End::Dry);
     }
     limit(x, budget, room)
 }
@@ -80,10 +81,10 @@ pub fn after(x: Scalars, turns: u32) -> Scalars
 }
 
 // The scalars with an end.
-pub fn close(x: Scalars, end: End) -> Scalars
-    ensures { result ≡ put_end (end_number end) x }
+pub fn close(x: Scalars, end: Stopped) -> Scalars
+    ensures { result ≡ put_end end x }
 {
     let mut y = x;
-    y.end = Stopped::at(end);
+    y.end = end;
     y
 }

@@ -1,6 +1,5 @@
 // The results of a run.
 ghost use Rattle.constants.specs.Numbers.{refusal_number};
-ghost use Rattle.state.specs.Notes.{end_or_0};
 ghost use Rattle.std.specs.Prelude.{◌≡◌, ◌≤◌};
 ghost use Rattle.machine.specs.All.{length, max_blocks, max_facilities};
 ghost use Rattle.rows_laws.specs.All.{Room};
@@ -13,7 +12,7 @@ ghost use Rattle.engine_laws.specs.Turns.{turns_rows};
 ghost use Rattle.engine_laws.specs.Last.{refused_with, ended_with, last_rows, Finishes};
 
 use crate::steps::turns;
-use constants::{End, Model, Refusal};
+use constants::{Model, Refusal};
 use engine_laws::Outcome;
 use layout::{LIST_CELLS, TABLES, TALLY};
 use report::write_report;
@@ -37,22 +36,12 @@ pub fn refused(r: Refusal) -> Outcome
     }
 }
 
-// The number of an end, 0 for none.
-fn number_or_0(end: Option<End>) -> u32
-    ensures { result ≡ end_or_0 end }
-{
-    match end {
-        Some(end) => end.number(),
-        None => 0,
-    }
-}
-
 fn ended(x: Scalars, report_bytes: usize) -> Outcome
     ensures { result ≡ ended_with x report_bytes }
 {
     Outcome {
         refusal: 0,
-        end: number_or_0(x.end.end()) as u64,
+        end: x.end.number() as u64,
         clock: x.clock,
         turns: x.turns as u64,
         made: x.made as u64,

@@ -8,12 +8,12 @@ ghost use Rattle.engine_laws.specs.Turns.{turns_left, Onward, WhereAllWait, Wher
 use crate::ends::{after, end_before};
 use constants::{Kind, Model};
 use layout::{TABLES, TALLY};
-use rows::Work;
 use state::{Mover, Note, Scalars};
 use turn::{all_wait, back_to, crowded, lengthen, line_all, quiet, stay};
 
 // Their turns, at most `left`, to a block where everybody waits; answers how many turns are done then.
-fn stay_all(work: &mut Work, budget: u64, room: usize, x: &Scalars, block: u32, left: u32) -> u32
+fn stay_all(work: &mut [u32], budget: u64, room: usize, x: &Scalars, block: u32, left: u32) -> u32
+    requires room { Room work.old }
     ensures where_all_wait { WhereAllWait block x.now
         (λ model tables tape tally trace. Onward model tables tape trace budget room x.now left work.old tally result
         work.new tally) }
@@ -22,7 +22,7 @@ fn stay_all(work: &mut Work, budget: u64, room: usize, x: &Scalars, block: u32, 
 {
     let mut y = *x;
     for _ in 0..left {
-        if let Some(_) = end_before(work, &y, budget, room) {
+        if end_before(work, &y, budget, room).ended() {
             return y.turns;
         }
         if back_to(work) != block {
@@ -51,7 +51,7 @@ fn turns_left(turns: u32, budget: u64, left: u32) -> u32
 // The same to an ENTER, if fewer units are free than it takes. They go back as they stand on REL, with one walk along their links.
 fn queue_all(
     tables: &[u32; TABLES],
-    work: &mut Work,
+    work: &mut [u32],
     tally: &mut [u64; TALLY],
     budget: u64,
     room: usize,
@@ -59,13 +59,14 @@ fn queue_all(
     block: u32,
     left: u32,
 ) -> u32
+    requires room { Room work.old }
     ensures where_enter { WhereEnter tables.now block x.now
         (λ model tape trace. Onward model tables.now tape trace budget room x.now left work.old tally.old result
         work.new tally.new) }
     ensures least { x.now.turns ≤ result }
     ensures most { result ≤ x.now.turns + left }
 {
-    if let Some(_) = end_before(work, x, budget, room) {
+    if end_before(work, x, budget, room).ended() {
         return x.turns;
     }
     if !crowded(tables, tally, block) {
@@ -85,20 +86,21 @@ pub fn herd(
     model: Model,
     tables: &[u32; TABLES],
     budget: u64,
-    work: &mut Work,
+    work: &mut [u32],
     tally: &mut [u64; TALLY],
     room: usize,
     x: &Scalars,
     left: u32,
 ) -> u32
+    requires room { Room work.old }
     ensures by_index { (tape trace : List ℕ) → Onward model tables.now tape trace budget room x.now left work.old tally.old result
         work.new tally.new }
     ensures least { x.now.turns ≤ result }
     ensures most { result ≤ x.now.turns + left }
 {
-    let Note::NoRecord = x.note.note() else {
+    if x.note.number() != Note::NoRecord as u32 {
         return x.turns;
-    };
+    }
     if x.moving.number() != Mover::NOBODY.number() {
         return x.turns;
     }

@@ -10,7 +10,6 @@ use crate::ends::{after, close, end_before};
 use crate::herds::herd;
 use constants::Model;
 use layout::{TABLES, TALLY};
-use rows::Work;
 use state::{Note, Scalars};
 use turn::turn;
 
@@ -21,11 +20,7 @@ const STEPS: u32 = Model::MAX_TURNS + 1;
 fn unrecorded(x: &Scalars) -> bool
     ensures { result ≡ eqb x.now.note 2 }
 {
-    match x.note.note() {
-        Note::Entered => false,
-        Note::Waits => false,
-        Note::NoRecord => true,
-    }
+    x.note.number() == Note::NoRecord as u32
 }
 
 // Turns one by one as long as nobody came back to wait, in a loop of their own; then those of a herd.
@@ -34,11 +29,12 @@ pub fn turns(
     tables: &[u32; TABLES],
     tape: &[u8],
     budget: u64,
-    work: &mut Work,
+    work: &mut [u32],
     tally: &mut [u64; TALLY],
     trace: &mut [u8],
     x: Scalars,
 ) -> Scalars
+    requires room { Room work.old }
     requires facilities_le_max_facilities { model.facilities ≤ max_facilities }
     requires blocks_le_max_blocks { model.blocks ≤ max_blocks }
     ensures { traced (rows_of result work.new tally.new) trace.new
@@ -53,7 +49,8 @@ pub fn turns(
             if left == 0 {
                 return y;
             }
-            if let Some(end) = end_before(work, &y, budget, trace.len()) {
+            let end = end_before(work, &y, budget, trace.len());
+            if end.ended() {
                 return close(y, end);
             }
             y = turn(model, tables, tape, work, tally, trace, y);

@@ -1,5 +1,6 @@
 // 2 ADVANCE list.
 ghost use Rattle.std.specs.Prelude.{◌≡◌, ◌+◌, ◌<◌};
+ghost use Rattle.rows_laws.specs.All.{Room};
 ghost use Rattle.layout.specs.All.{program_size};
 ghost use Rattle.moves.specs.Motion.{moved};
 ghost use Rattle.state.specs.All.{rows_of};
@@ -12,11 +13,11 @@ use constants::End;
 use flow_laws::Sample;
 use layout::{FIRST, number};
 use moves::{go_on, stop};
-use rows::Work;
 use state::{Mover, Moving, Scalars};
 
 // The moving one goes to the FEL at a time, its next block plus one.
-fn send_on(work: &mut Work, x: Moving, time: u64) -> Scalars
+fn send_on(work: &mut [u32], x: Moving, time: u64) -> Scalars
+    requires room { Room work.old }
     ensures { moved result work.new ≡ send_on work.old x time }
 {
     let k = x.row();
@@ -26,7 +27,8 @@ fn send_on(work: &mut Work, x: Moving, time: u64) -> Scalars
     z
 }
 
-fn delay(work: &mut Work, tally: &mut [u64], x: Moving, sample: Sample, list: u32) -> Scalars
+fn delay(work: &mut [u32], tally: &mut [u64], x: Moving, sample: Sample, list: u32) -> Scalars
+    requires room { Room work.old }
     ensures { rows_of result work.new tally.new ≡ delay_rows work.old tally.old x sample list }
 {
     let next = sample.next;
@@ -35,7 +37,8 @@ fn delay(work: &mut Work, tally: &mut [u64], x: Moving, sample: Sample, list: u3
     send_on(work, x, time)
 }
 
-fn advance_next(tape: &[u8], work: &mut Work, tally: &mut [u64], x: Moving, list: u32) -> Scalars
+fn advance_next(tape: &[u8], work: &mut [u32], tally: &mut [u64], x: Moving, list: u32) -> Scalars
+    requires room { Room work.old }
     ensures { rows_of result work.new tally.new
         ≡ advance_next tape.now work.old tally.old x list }
 {
@@ -49,11 +52,12 @@ fn advance_next(tape: &[u8], work: &mut Work, tally: &mut [u64], x: Moving, list
 pub fn advance(
     tables: &[u32],
     tape: &[u8],
-    work: &mut Work,
+    work: &mut [u32],
     tally: &mut [u64],
     x: Moving,
     at: usize,
 ) -> Scalars
+    requires room { Room work.old }
     requires at_lt_program_size { at < program_size }
     ensures { rows_of result work.new tally.new
         ≡ advance_rows tables.now tape.now work.old tally.old x at }

@@ -1,5 +1,6 @@
 // 18 ASSEMBLE n.
 ghost use Rattle.std.specs.Prelude.{◌≡◌, ◌+◌, ◌<◌, ◌≤◌};
+ghost use Rattle.rows_laws.specs.All.{Room};
 ghost use Rattle.machine.specs.All.{max_facilities};
 ghost use Rattle.layout.specs.All.{program_size};
 ghost use Rattle.moves.specs.Motion.{moved};
@@ -12,18 +13,20 @@ use moves::{IN_ORDER, begin_wait, stop};
 use rows::cells::{read, row_at, set_returning, write};
 use rows::lists::{family_cell, remove_at};
 use rows::make::free_row;
-use rows::{Chain, FAMILY, NEXT, NUMBER, Row, Work};
+use rows::{Chain, FAMILY, NEXT, NUMBER, Row};
 use state::{Mover, Moving, Note, Noting, Scalars};
 
 // The list of gatherers of the block at which row k stands.
-fn list_at(work: &Work, k: Row) -> Chain
+fn list_at(work: &[u32], k: Row) -> Chain
+    requires room { Room work.now }
     ensures { result ≡ list_at_lem work.now k }
 {
     Chain::gatherers(read(work, NEXT, k).saturating_sub(1))
 }
 
 // The first of its family begins to wait on list p; its row holds how many have come.
-fn gather_on(work: &mut Work, x: Moving, p: Chain) -> Scalars
+fn gather_on(work: &mut [u32], x: Moving, p: Chain) -> Scalars
+    requires room { Room work.old }
     ensures { moved result work.new ≡ gather_on work.old x p }
 {
     write(work, NEXT, x.row(), 1);
@@ -31,7 +34,8 @@ fn gather_on(work: &mut Work, x: Moving, p: Chain) -> Scalars
 }
 
 // The one that waits, row j of cell c, goes to REL and on from the block of the moving one.
-fn release_on(work: &mut Work, x: Moving, p: Chain, c: u32, j: Row) -> Scalars
+fn release_on(work: &mut [u32], x: Moving, p: Chain, c: u32, j: Row) -> Scalars
+    requires room { Room work.old }
     ensures { moved result work.new ≡ release_on work.old x p c j }
 {
     let next = read(work, NEXT, x.row()).saturating_add(1);
@@ -42,7 +46,8 @@ fn release_on(work: &mut Work, x: Moving, p: Chain, c: u32, j: Row) -> Scalars
 }
 
 // A later one, row k, ends.
-fn end_on(work: &mut Work, x: Scalars, k: Row) -> Scalars
+fn end_on(work: &mut [u32], x: Scalars, k: Row) -> Scalars
+    requires room { Room work.old }
     ensures { moved result work.new ≡ end_on work.old x k }
 {
     free_row(work, k);
@@ -54,7 +59,8 @@ fn end_on(work: &mut Work, x: Scalars, k: Row) -> Scalars
 }
 
 // So many have come with it: at the n-th the one that waits goes on.
-fn count_on(work: &mut Work, x: Moving, n: u32, p: Chain, c: u32, j: Row, come: u32) -> Scalars
+fn count_on(work: &mut [u32], x: Moving, n: u32, p: Chain, c: u32, j: Row, come: u32) -> Scalars
+    requires room { Room work.old }
     ensures { moved result work.new ≡ count_on work.old x n p c j come }
 {
     let k = x.row();
@@ -68,7 +74,7 @@ fn count_on(work: &mut Work, x: Moving, n: u32, p: Chain, c: u32, j: Row, come: 
 
 fn later(
     facilities: usize,
-    work: &mut Work,
+    work: &mut [u32],
     tally: &[u64],
     x: Moving,
     n: u32,
@@ -76,6 +82,7 @@ fn later(
     c: u32,
     j: Row,
 ) -> Scalars
+    requires room { Room work.old }
     requires facilities_le_max_facilities { facilities ≤ max_facilities }
     ensures { moved result work.new ≡ later_rows facilities work.old tally.now x n p c j }
 {
@@ -88,13 +95,14 @@ fn later(
 
 fn gather(
     facilities: usize,
-    work: &mut Work,
+    work: &mut [u32],
     tally: &[u64],
     x: Moving,
     n: u32,
     p: Chain,
     c: u32,
 ) -> Scalars
+    requires room { Room work.old }
     requires facilities_le_max_facilities { facilities ≤ max_facilities }
     ensures { moved result work.new ≡ gather_rows facilities work.old tally.now x n p c }
 {
@@ -107,11 +115,12 @@ fn gather(
 pub fn assemble(
     tables: &[u32],
     facilities: usize,
-    work: &mut Work,
+    work: &mut [u32],
     tally: &[u64],
     x: Moving,
     at: usize,
 ) -> Scalars
+    requires room { Room work.old }
     requires facilities_le_max_facilities { facilities ≤ max_facilities }
     requires at_lt_program_size { at < program_size }
     ensures { moved result work.new

@@ -1,5 +1,6 @@
 // 1 GENERATE list, priority.
 ghost use Rattle.std.specs.Prelude.{◌≡◌, ◌+◌, ◌<◌};
+ghost use Rattle.rows_laws.specs.All.{Room};
 ghost use Rattle.layout.specs.All.{program_size};
 ghost use Rattle.state.specs.All.{rows_of};
 ghost use Rattle.flow_laws.specs.Kinds.{arrive_on, generate_next, generate_rows};
@@ -10,19 +11,20 @@ use crate::sending::{arrives, one_made};
 use flow_laws::Sample;
 use layout::{FIRST, SECOND, number};
 use moves::{go_on, stop};
+use rows::NEXT;
 use rows::cells::read;
-use rows::{NEXT, Work};
 use state::{Moving, Scalars};
 
 // The transaction goes on, and a new one comes.
 fn arrive_on(
-    work: &mut Work,
+    work: &mut [u32],
     tally: &mut [u64],
     x: Moving,
     sample: Sample,
     list: u32,
     priority: u32,
 ) -> Scalars
+    requires room { Room work.old }
     ensures { rows_of result work.new tally.new
         ≡ arrive_on work.old tally.old x sample list priority }
 {
@@ -36,12 +38,13 @@ fn arrive_on(
 
 fn generate_next(
     tape: &[u8],
-    work: &mut Work,
+    work: &mut [u32],
     tally: &mut [u64],
     x: Moving,
     list: u32,
     priority: u32,
 ) -> Scalars
+    requires room { Room work.old }
     ensures { rows_of result work.new tally.new
         ≡ generate_next tape.now work.old tally.old x list priority }
 {
@@ -55,11 +58,12 @@ fn generate_next(
 pub fn generate(
     tables: &[u32],
     tape: &[u8],
-    work: &mut Work,
+    work: &mut [u32],
     tally: &mut [u64],
     x: Moving,
     at: usize,
 ) -> Scalars
+    requires room { Room work.old }
     requires at_lt_program_size { at < program_size }
     ensures { rows_of result work.new tally.new
         ≡ generate_rows tables.now tape.now work.old tally.old x at }

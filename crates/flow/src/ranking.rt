@@ -1,5 +1,6 @@
 // 13 PRIORITY p.
 ghost use Rattle.std.specs.Prelude.{◌≡◌, ◌+◌, ◌<◌};
+ghost use Rattle.rows_laws.specs.All.{Room};
 ghost use Rattle.layout.specs.All.{program_size};
 ghost use Rattle.moves.specs.Motion.{moved};
 ghost use Rattle.flow_laws.specs.Kinds.{rank_on, priority_rows};
@@ -7,12 +8,13 @@ ghost use Rattle.flow_laws.specs.Kinds.{rank_on, priority_rows};
 use crate::sending::{PRIORITIES, to_ready};
 use layout::{FIRST, number};
 use moves::go_on;
+use rows::STANDING;
 use rows::cells::write;
-use rows::{STANDING, Work};
 use state::{Mover, Moving, Scalars};
 
 // The moving one goes to REL with a priority, its next block plus one.
-fn rank_on(work: &mut Work, x: Moving, p: u32) -> Scalars
+fn rank_on(work: &mut [u32], x: Moving, p: u32) -> Scalars
+    requires room { Room work.old }
     ensures { moved result work.new ≡ rank_on work.old x p }
 {
     let k = x.row();
@@ -23,7 +25,8 @@ fn rank_on(work: &mut Work, x: Moving, p: u32) -> Scalars
     z
 }
 
-pub fn priority(tables: &[u32], work: &mut Work, x: Moving, at: usize) -> Scalars
+pub fn priority(tables: &[u32], work: &mut [u32], x: Moving, at: usize) -> Scalars
+    requires room { Room work.old }
     requires at_lt_program_size { at < program_size }
     ensures { moved result work.new ≡ priority_rows tables.now work.old x at }
 {

@@ -1,5 +1,6 @@
 // Rows on no list go to the FEL or to REL with a fresh serial; new rows for both.
 ghost use Rattle.std.specs.Prelude.{◌≡◌};
+ghost use Rattle.rows_laws.specs.All.{Room};
 ghost use Rattle.machine.specs.All.{true};
 ghost use Rattle.moves.specs.Motion.{moved, next32};
 ghost use Rattle.state.specs.All.{put_serial, rows_of};
@@ -12,14 +13,15 @@ use rows::cells::{set_time, write};
 use rows::future::schedule;
 use rows::lists::put;
 use rows::make::{copy, make_row, newborn};
-use rows::{Chain, Row, SERIAL, Work};
+use rows::{Chain, Row, SERIAL};
 use state::{Scalars, by_fields};
 
 // A priority is below this number.
 pub const PRIORITIES: u32 = Model::MAX_PRIORITY as u32 + 1;
 
 // Row k comes onto the FEL at a time, with the serial after this one.
-fn row_to_future(work: &mut Work, serial: u32, k: Row, time: u64)
+fn row_to_future(work: &mut [u32], serial: u32, k: Row, time: u64)
+    requires room { Room work.old }
     ensures { (x : Scalars) → x.serial ≡ serial
         → moved (put_serial (next32 x.serial) x) work.new ≡ to_future work.old x k time }
 {
@@ -28,7 +30,8 @@ fn row_to_future(work: &mut Work, serial: u32, k: Row, time: u64)
     schedule(work, k);
 }
 
-pub fn to_future(work: &mut Work, x: Scalars, k: Row, time: u64) -> Scalars
+pub fn to_future(work: &mut [u32], x: Scalars, k: Row, time: u64) -> Scalars
+    requires room { Room work.old }
     ensures { moved result work.new ≡ to_future work.old x k time }
 {
     let serial = x.serial;
@@ -38,7 +41,8 @@ pub fn to_future(work: &mut Work, x: Scalars, k: Row, time: u64) -> Scalars
     y
 }
 
-pub fn to_ready(work: &mut Work, x: Scalars, k: Row) -> Scalars
+pub fn to_ready(work: &mut [u32], x: Scalars, k: Row) -> Scalars
+    requires room { Room work.old }
     ensures { moved result work.new ≡ to_ready work.old x k }
 {
     let serial = x.serial.saturating_add(1);
@@ -50,7 +54,8 @@ pub fn to_ready(work: &mut Work, x: Scalars, k: Row) -> Scalars
 }
 
 // Row k becomes a new transaction at a block, on the FEL at a time: the next number and serial.
-fn born_at(work: &mut Work, made: u32, serial: u32, k: Row, time: u64, priority: u32, block: u32)
+fn born_at(work: &mut [u32], made: u32, serial: u32, k: Row, time: u64, priority: u32, block: u32)
+    requires room { Room work.old }
     ensures { (x : Scalars) → x.made ≡ made → x.serial ≡ serial
         → moved (one_made x true) work.new ≡ born_at work.old x k time priority block }
 {
@@ -65,7 +70,8 @@ fn born_at(work: &mut Work, made: u32, serial: u32, k: Row, time: u64, priority:
 }
 
 // Answers whether there was a free row.
-fn born(work: &mut Work, made: u32, serial: u32, time: u64, priority: u32, block: u32) -> bool
+fn born(work: &mut [u32], made: u32, serial: u32, time: u64, priority: u32, block: u32) -> bool
+    requires room { Room work.old }
     ensures { (x : Scalars) → x.made ≡ made → x.serial ≡ serial
         → moved (one_made x result) work.new ≡ born work.old x time priority block }
 {
@@ -93,7 +99,7 @@ pub fn one_made(x: Scalars, made: bool) -> Scalars
 
 // A new transaction comes onto the FEL at the clock plus a sample, which is used. Answers whether there was a free row.
 pub fn arrives(
-    work: &mut Work,
+    work: &mut [u32],
     tally: &mut [u64],
     made: u32,
     serial: u32,
@@ -103,6 +109,7 @@ pub fn arrives(
     priority: u32,
     block: u32,
 ) -> bool
+    requires room { Room work.old }
     ensures { (x : Scalars) → x.made ≡ made → x.serial ≡ serial → x.clock ≡ clock
         → rows_of (one_made x result) work.new tally.new
         ≡ arrives work.old tally.old x sample list priority block }
@@ -114,7 +121,8 @@ pub fn arrives(
 }
 
 // Row k becomes a copy of the moving one at a block, on REL.
-fn copy_to(work: &mut Work, x: Scalars, moving: Row, k: Row, target: u32) -> Scalars
+fn copy_to(work: &mut [u32], x: Scalars, moving: Row, k: Row, target: u32) -> Scalars
+    requires room { Room work.old }
     ensures { x.moving ≡ moving → moved result work.new ≡ copy_to work.old x k target }
 {
     let number = x.made.saturating_add(1);
@@ -125,7 +133,8 @@ fn copy_to(work: &mut Work, x: Scalars, moving: Row, k: Row, target: u32) -> Sca
 }
 
 // The moving one, whose row is given too, gets a copy, where a row is free.
-pub fn copy_one(work: &mut Work, x: Scalars, moving: Row, target: u32) -> Scalars
+pub fn copy_one(work: &mut [u32], x: Scalars, moving: Row, target: u32) -> Scalars
+    requires room { Room work.old }
     ensures { x.moving ≡ moving → moved result work.new ≡ copy_one work.old x target }
 {
     match make_row(work) {

@@ -1,5 +1,6 @@
 // 3 TERMINATE a.
 ghost use Rattle.std.specs.Prelude.{◌≡◌, ◌+◌, ◌<◌, ◌≤◌};
+ghost use Rattle.rows_laws.specs.All.{Room};
 ghost use Rattle.machine.specs.All.{cond, leb, max_facilities};
 ghost use Rattle.layout.specs.All.{program_size};
 ghost use Rattle.moves.specs.Motion.{moved};
@@ -9,9 +10,9 @@ use crate::questions::ask_holding;
 use constants::End;
 use layout::{FIRST, number};
 use moves::stop;
+use rows::NUMBER;
 use rows::cells::read;
 use rows::make::free_row;
-use rows::{NUMBER, Work};
 use state::{Mover, Moving, Note, Noting, Scalars, Stopped, by_fields};
 
 // "At or below 0, end 2."
@@ -42,11 +43,12 @@ fn end_one(x: Scalars, a: u32) -> Scalars
 pub fn terminate(
     tables: &[u32],
     facilities: usize,
-    work: &mut Work,
+    work: &mut [u32],
     tally: &[u64],
     x: Moving,
     at: usize,
 ) -> Scalars
+    requires room { Room work.old }
     requires facilities_le_max_facilities { facilities ≤ max_facilities }
     requires at_lt_program_size { at < program_size }
     ensures { moved result work.new

@@ -1,3 +1,4 @@
+pub mod Copies
 pub mod Forming
 pub mod Outputs
 pub mod Pairing

@@ -16,7 +16,7 @@ ghost use Rattle.join.specs.Contract.{Contract};
 ghost use Rattle.join_laws.specs.Whole.{kept_room, at_front_lem, joined_bytes_lem, joined_tables, Ready};
 
 use constants::{Model, Refusal};
-use copying::{end_to_end, room_for};
+use copying::{copy, end_to_end, room_for};
 use decode::decode;
 use layout::{LIST_CELLS, TABLES};
 use part::Part;
@@ -37,7 +37,7 @@ fn joined_model(first: &Part, second: &Part, out: &mut [u8]) -> usize
     if out.len() < bytes {
         return bytes;
     }
-    out[..bytes].copy_from_slice(&room[..bytes]);
+    copy(&room[..bytes], &mut out[..bytes]);
     bytes
 }
 

@@ -5,6 +5,7 @@
 #![tactic(auto)]
 
 ghost use Rattle.std.specs.Prelude.{◌≡◌};
+ghost use Rattle.rows_laws.specs.All.{Room};
 ghost use Rattle.constants.specs.Numbers.{end_number};
 ghost use Rattle.state.specs.Notes.{note_number};
 ghost use Rattle.moves.specs.Motion.{moved, with_outcome, go_to, go_on_lem, go_back, begin_wait, wait_on, stopped};
@@ -12,20 +13,20 @@ ghost use Rattle.moves.specs.Motion.{moved, with_outcome, go_to, go_on_lem, go_b
 use constants::End;
 use rows::cells::{read, set_returning, write};
 use rows::lines::line_up;
-use rows::{Chain, NEXT, Row, SERIAL, STANDING, Work};
+use rows::{Chain, NEXT, Row, SERIAL, STANDING};
 use state::{Mover, Moving, Note, Noting, Scalars, Stopped, by_fields};
 
 // The WSL and the lists of gatherers are in the order of edition 1 under either edition.
 pub const IN_ORDER: u32 = 1;
 
 // The scalars where it entered, where it began to wait with the next serial, or where it came back to wait and writes no record.
-pub fn with_outcome(x: Scalars, outcome: Note) -> Scalars
-    ensures { result ≡ with_outcome x (note_number outcome) }
+pub fn with_outcome(x: Scalars, outcome: Noting) -> Scalars
+    ensures { result ≡ with_outcome x outcome }
 {
     let serial = x.serial;
     let mut y = by_fields(x);
-    y.note = Noting::of(outcome);
-    match outcome {
+    y.note = outcome;
+    match outcome.note() {
         Note::Entered => {}
         Note::Waits => {
             y.moving = Mover::NOBODY;
@@ -37,7 +38,8 @@ pub fn with_outcome(x: Scalars, outcome: Note) -> Scalars
 }
 
 // Row k stands before a block, not returning.
-fn row_goes_to(work: &mut Work, k: Row, block: u32)
+fn row_goes_to(work: &mut [u32], k: Row, block: u32)
+    requires room { Room work.old }
     ensures { (x : Scalars) → x.moving ≡ k → moved (with_outcome x 0) work.new ≡ go_to work.old x block }
 {
     write(work, NEXT, k, block);
@@ -45,15 +47,17 @@ fn row_goes_to(work: &mut Work, k: Row, block: u32)
 }
 
 // The transaction stands before a block, still moving; it entered.
-pub fn go_to(work: &mut Work, x: Moving, block: u32) -> Scalars
+pub fn go_to(work: &mut [u32], x: Moving, block: u32) -> Scalars
+    requires room { Room work.old }
     ensures { moved result work.new ≡ go_to work.old x block }
 {
     row_goes_to(work, x.row(), block);
-    with_outcome(x.scalars(), Note::Entered)
+    with_outcome(x.scalars(), Noting::of(Note::Entered))
 }
 
 // Row k stands before the next block plus one.
-pub fn row_goes_on(work: &mut Work, k: Row)
+pub fn row_goes_on(work: &mut [u32], k: Row)
+    requires room { Room work.old }
     ensures { (x : Scalars) → x.moving ≡ k → moved (with_outcome x 0) work.new ≡ go_on_lem work.old x }
 {
     let next = read(work, NEXT, k).saturating_add(1);
@@ -61,15 +65,17 @@ pub fn row_goes_on(work: &mut Work, k: Row)
 }
 
 // "Go on": the next block plus one.
-pub fn go_on(work: &mut Work, x: Moving) -> Scalars
+pub fn go_on(work: &mut [u32], x: Moving) -> Scalars
+    requires room { Room work.old }
     ensures { moved result work.new ≡ go_on_lem work.old x }
 {
     row_goes_on(work, x.row());
-    with_outcome(x.scalars(), Note::Entered)
+    with_outcome(x.scalars(), Noting::of(Note::Entered))
 }
 
 // Back by so many blocks, still moving; no record is written.
-pub fn go_back(work: &mut Work, x: Moving, blocks: u32) -> Scalars
+pub fn go_back(work: &mut [u32], x: Moving, blocks: u32) -> Scalars
+    requires room { Room work.old }
     ensures { moved result work.new ≡ go_back work.old x blocks }
 {
     let row = x.row();
@@ -82,7 +88,8 @@ pub fn go_back(work: &mut Work, x: Moving, blocks: u32) -> Scalars
 }
 
 // Row k begins to wait on list p with the serial after this one.
-fn row_begins_wait(work: &mut Work, k: Row, serial: u32, p: Chain, edition: u32)
+fn row_begins_wait(work: &mut [u32], k: Row, serial: u32, p: Chain, edition: u32)
+    requires room { Room work.old }
     ensures { (x : Scalars) → x.moving ≡ k → x.serial ≡ serial
         → moved (with_outcome x 1) work.new ≡ begin_wait work.old x p edition }
 {
@@ -91,17 +98,19 @@ fn row_begins_wait(work: &mut Work, k: Row, serial: u32, p: Chain, edition: u32)
 }
 
 // The transaction begins to wait on list p with a fresh serial.
-pub fn begin_wait(work: &mut Work, x: Moving, p: Chain, edition: u32) -> Scalars
+pub fn begin_wait(work: &mut [u32], x: Moving, p: Chain, edition: u32) -> Scalars
+    requires room { Room work.old }
     ensures { moved result work.new ≡ begin_wait work.old x p edition }
 {
     let s = x.scalars();
     row_begins_wait(work, x.row(), s.serial, p, edition);
-    with_outcome(s, Note::Waits)
+    with_outcome(s, Noting::of(Note::Waits))
 }
 
 // Row k comes onto list p, where the edition places it: a returning one with its own serial, another begins to wait. Answers which
 // record that writes.
-pub fn row_waits(work: &mut Work, k: Row, serial: u32, p: Chain, edition: u32) -> Note
+pub fn row_waits(work: &mut [u32], k: Row, serial: u32, p: Chain, edition: u32) -> Note
+    requires room { Room work.old }
     ensures { (x : Scalars) → x.moving ≡ k → x.serial ≡ serial
         → moved (with_outcome x (note_number result)) work.new ≡ wait_on work.old x p edition }
 {
@@ -114,12 +123,13 @@ pub fn row_waits(work: &mut Work, k: Row, serial: u32, p: Chain, edition: u32) -
 }
 
 // The transaction must wait on list p, where the edition places it.
-pub fn wait_on(work: &mut Work, x: Moving, p: Chain, edition: u32) -> Scalars
+pub fn wait_on(work: &mut [u32], x: Moving, p: Chain, edition: u32) -> Scalars
+    requires room { Room work.old }
     ensures { moved result work.new ≡ wait_on work.old x p edition }
 {
     let s = x.scalars();
     let outcome = row_waits(work, x.row(), s.serial, p, edition);
-    with_outcome(s, outcome)
+    with_outcome(s, Noting::of(outcome))
 }
 
 // A question stops the turn with an end; no record is written.

@@ -11,7 +11,7 @@ ghost use Rattle.parse_values.specs.Keeps.{Fits, Takes, Stores, cursor_of, plain
 ghost use Rattle.parse_values.specs.Filled.{Filled};
 ghost use Rattle.parse_values.specs.Shapes.{Within, ProperValue, before_values, counts_of, range_of, operand_field, term_shape, operand_shape, terms_shape, sum_shape, value_shape, block_term_shape};
 
-use codec::read_field;
+use codec::read_text;
 use constants::{Model, Refusal, Text};
 use layout::{
     BRACKET_TAG, COMPARISON_TAG, ENTRIES_TAG, RELATIONS, TABLES, Tag, VALUE_TAG, VALUE_WIDTH,
@@ -34,7 +34,7 @@ pub fn number(s: &[u8], p: Place, lo: usize, hi: usize) -> Result<(usize, Place)
     ensures range { (v : ℕ) (q : Place) → result ≡ Ok (v, q) → (lo ≤ v) × (v ≤ hi) × (q.numbers ≡ p.numbers) }
 {
     let most = Model::MAX_NUMBER;
-    let (v, position) = read_field(s, p.position, most, lo as u64, hi as u64, Text::Model)?;
+    let (v, position) = read_text(s, p.position, most, lo as u64, hi as u64, Text::Model)?;
     Ok((v as usize, Place { position, ..p }))
 }
 

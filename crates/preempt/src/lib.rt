@@ -4,7 +4,7 @@
 
 ghost use Rattle.std.specs.Prelude.{ℕ, ◌≡◌, ◌<◌};
 ghost use Rattle.layout.specs.All.{program_size};
-ghost use Rattle.rows_laws.specs.All.{IsRow};
+ghost use Rattle.rows_laws.specs.All.{Room, IsRow};
 ghost use Rattle.moves.specs.Motion.{moved};
 ghost use Rattle.state.specs.All.{rows_of};
 ghost use Rattle.state.specs.Notes.{number_of_no};
@@ -17,11 +17,11 @@ use moves::{stop, with_outcome};
 use rows::cells::{priority, read, set_time, time};
 use rows::future::{cancel, find_loser};
 use rows::lists::{first, put, take_first};
-use rows::{Chain, NUMBER, Row, Server, Work};
+use rows::{Chain, NUMBER, Row, Server};
 use servers::freeing::free_one;
 use servers::taking::{SELDOM, hold_units, take_units};
 use servers::units::{capacity, holder, in_use, preempted, server_at};
-use state::{Moving, Note, Scalars};
+use state::{Moving, Note, Noting, Scalars};
 
 // In use, and not by PREEMPT.
 fn seized(tally: &[u64], v: Server) -> bool
@@ -31,7 +31,8 @@ fn seized(tally: &[u64], v: Server) -> bool
 }
 
 // Row j of the FEL goes to the interrupted one's list of a facility, with its remaining ticks kept.
-fn interrupt_on(work: &mut Work, clock: u64, v: Server, j: Row)
+fn interrupt_on(work: &mut [u32], clock: u64, v: Server, j: Row)
+    requires room { Room work.old }
     ensures { work.new ≡ interrupt_on work.old clock v j }
 {
     let left = time(work, j).saturating_sub(clock);
@@ -42,13 +43,14 @@ fn interrupt_on(work: &mut Work, clock: u64, v: Server, j: Row)
 
 fn take_over(
     tables: &[u32],
-    work: &mut Work,
+    work: &mut [u32],
     tally: &mut [u64],
     x: Moving,
     v: Server,
     j: Row,
     number: u64,
 ) -> Scalars
+    requires room { Room work.old }
     ensures { rows_of result work.new tally.new
         ≡ take_over tables.now work.old tally.old x v j number }
 {
@@ -69,18 +71,19 @@ fn take_over(
         1,
         all,
     );
-    with_outcome(s, Note::Entered)
+    with_outcome(s, Noting::of(Note::Entered))
 }
 
 // Of a seized facility: "a holder of lower priority that stands on the FEL" loses it, or PREEMPT waits.
 fn preempt_seized(
     tables: &[u32],
-    work: &mut Work,
+    work: &mut [u32],
     tally: &mut [u64],
     x: Moving,
     v: Server,
     number: u64,
 ) -> Scalars
+    requires room { Room work.old }
     ensures { rows_of result work.new tally.new
         ≡ preempt_seized tables.now work.old tally.old x v number }
 {
@@ -92,10 +95,11 @@ fn preempt_seized(
     }
     let s = x.scalars();
     let outcome = take_units::<SELDOM>(tables, work, tally, k, s.serial, s.clock, v, 1, number, 1);
-    with_outcome(s, outcome)
+    with_outcome(s, Noting::of(outcome))
 }
 
-pub fn preempt(tables: &[u32], work: &mut Work, tally: &mut [u64], x: Moving, at: usize) -> Scalars
+pub fn preempt(tables: &[u32], work: &mut [u32], tally: &mut [u64], x: Moving, at: usize) -> Scalars
+    requires room { Room work.old }
     requires at_lt_program_size { at < program_size }
     ensures { rows_of result work.new tally.new
         ≡ preempt_rows tables.now work.old tally.old x at }
@@ -108,11 +112,12 @@ pub fn preempt(tables: &[u32], work: &mut Work, tally: &mut [u64], x: Moving, at
     }
     let s = x.scalars();
     let outcome = take_units::<SELDOM>(tables, work, tally, k, s.serial, s.clock, v, 1, number, 1);
-    with_outcome(s, outcome)
+    with_outcome(s, Noting::of(outcome))
 }
 
 // May the interrupted one, if there is one, go on at the clock plus its remaining ticks?
-fn ask_resume(work: &Work, x: Scalars, interrupted: Option<Row>) -> Result<(), End>
+fn ask_resume(work: &[u32], x: Scalars, interrupted: Option<Row>) -> Result<(), End>
+    requires room { Room work.now }
     ensures { (j : ℕ) → IsRow j interrupted → number_of_no result ≡ ask_resume work.now x j }
 {
     match interrupted {
@@ -122,7 +127,8 @@ fn ask_resume(work: &Work, x: Scalars, interrupted: Option<Row>) -> Result<(), E
 }
 
 // May the transaction of that number give a facility back? 24, then 27, then 22.
-fn ask_give_back(work: &Work, tally: &[u64], x: Scalars, v: Server, number: u64) -> Result<(), End>
+fn ask_give_back(work: &[u32], tally: &[u64], x: Scalars, v: Server, number: u64) -> Result<(), End>
+    requires room { Room work.now }
     ensures { number_of_no result ≡ ask_give_back work.now tally.now x v number }
 {
     if in_use(tally, v) < 1 {
@@ -138,7 +144,8 @@ fn ask_give_back(work: &Work, tally: &[u64], x: Scalars, v: Server, number: u64)
 }
 
 // Row j, the interrupted one, goes to the FEL.
-fn resume_on(work: &mut Work, x: Scalars, v: Server, j: Row) -> Scalars
+fn resume_on(work: &mut [u32], x: Scalars, v: Server, j: Row) -> Scalars
+    requires room { Room work.old }
     ensures { moved result work.new ≡ resume_on work.old x v j }
 {
     let due = x.clock.saturating_add(time(work, j));
@@ -148,12 +155,13 @@ fn resume_on(work: &mut Work, x: Scalars, v: Server, j: Row) -> Scalars
 
 fn resume(
     tables: &[u32],
-    work: &mut Work,
+    work: &mut [u32],
     tally: &mut [u64],
     x: Moving,
     v: Server,
     j: Row,
 ) -> Scalars
+    requires room { Room work.old }
     ensures { rows_of result work.new tally.new
         ≡ resume_rows tables.now work.old tally.old x v j }
 {
@@ -163,17 +171,18 @@ fn resume(
     let k = x.row();
     let y = resume_on(work, x.scalars(), v, j);
     hold_units::<SELDOM>(work, tally, k, y.clock, v, units, who, j.number(), 0, all);
-    with_outcome(y, Note::Entered)
+    with_outcome(y, Noting::of(Note::Entered))
 }
 
 // The interrupted one has the facility again; "if there is none, it acts as RELEASE".
 fn give_back_now(
     tables: &[u32],
-    work: &mut Work,
+    work: &mut [u32],
     tally: &mut [u64],
     x: Moving,
     v: Server,
 ) -> Scalars
+    requires room { Room work.old }
     ensures { rows_of result work.new tally.new
         ≡ give_back_now tables.now work.old tally.old x v }
 {
@@ -183,16 +192,17 @@ fn give_back_now(
     let s = x.scalars();
     let left = in_use(tally, v).saturating_sub(1);
     free_one::<SELDOM>(tables, work, tally, x.row(), s.clock, v, left);
-    with_outcome(s, Note::Entered)
+    with_outcome(s, Noting::of(Note::Entered))
 }
 
 pub fn give_back(
     tables: &[u32],
-    work: &mut Work,
+    work: &mut [u32],
     tally: &mut [u64],
     x: Moving,
     at: usize,
 ) -> Scalars
+    requires room { Room work.old }
     requires at_lt_program_size { at < program_size }
     ensures { rows_of result work.new tally.new
         ≡ give_back_rows tables.now work.old tally.old x at }

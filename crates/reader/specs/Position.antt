@@ -1,6 +1,15 @@
 -- Where a trace reader stands after a call.
 use Rattle.machine.specs.All.{ℕ, List, in_force, Reading, taken, refusal, no_more, read_record}
+use Rattle.std.specs.Prelude.{Option, Some, None, Result, Ok, Err}
+use Rattle.trace.specs.declared.Record.{Record}
+use Rattle.trace.specs.Answers.{entry_of}
 use Rattle.reader.specs.declared.Reader.{Reader}
+
+-- an answer of the reader whose refusals have numbers
+abbrev pub reading_by : {E : Type 0} → (E → ℕ) → Result (Option (Record × ℕ)) E → Reading
+reading_by number (Ok (Some x)) = taken (entry_of x.0) x.1
+reading_by number (Ok None) = no_more
+reading_by number (Err r) = refusal (number r)
 
 -- "A refusal leaves the position."
 unfoldable pub position_behind : ℕ → Reading → ℕ

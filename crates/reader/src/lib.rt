@@ -4,9 +4,9 @@
 #![tactic(auto)]
 
 ghost use Rattle.std.specs.Prelude.{◌≡◌};
-ghost use Rattle.machine.specs.All.{in_force, count_low, read_record};
+ghost use Rattle.machine.specs.All.{ℕ, in_force, count_low, read_record};
 ghost use Rattle.trace.specs.Answers.{reading_of};
-ghost use Rattle.reader.specs.Position.{position_behind, moved};
+ghost use Rattle.reader.specs.Position.{position_behind, reading_by, moved};
 
 use constants::Refusal;
 use trace::{Record, count_low, read_record};
@@ -18,8 +18,8 @@ pub struct Reader<'a> {
 }
 
 // The position behind an answer of the reader at a position. "A refusal leaves the position", and so does "no more".
-pub fn behind(x: Result<Option<(Record, usize)>, Refusal>, at: usize) -> usize
-    ensures { result ≡ position_behind at (reading_of x) }
+pub fn behind<E: Copy>(x: Result<Option<(Record, usize)>, E>, at: usize) -> usize
+    ensures { (number : E → ℕ) → result ≡ position_behind at (reading_by number x) }
 {
     match x {
         Ok(Some((_, next))) => next,

@@ -5,7 +5,7 @@ ghost use Rattle.std.specs.Prelude.{◌≡◌, ◌-◌, ◌<◌, ◌≤◌};
 ghost use Rattle.rows_laws.specs.All.{Room, row_count, list_count, part_rows, part_count, place, load, ready_place, ready_standing, one_if, ready_row, ready_rows, ready_count, ready_parts, join_at, join_ready, wake_whole};
 
 use crate::cells::{get, set, store};
-use crate::lists::end_at;
+use crate::lists::{end_at, first_number};
 use crate::make::empty_list;
 use crate::{Chain, FIELD_WIDTH, PART_ROWS, PARTS, PLACES, REL, STANDING};
 
@@ -79,7 +79,7 @@ fn join_at(w: &mut [u32], p: Chain, t: u32, r: u32)
     requires { Room w.old }
     ensures { w.new ≡ join_at w.old p t r }
 {
-    let k = get(w, p.head());
+    let k = first_number(w, p);
     store(w, t, r);
     set(w, Chain::REL.head(), k);
     end_at(w, Chain::REL, r, t);
@@ -91,7 +91,7 @@ fn join_ready(w: &mut [u32], p: Chain)
     ensures { w.new ≡ join_ready w.old p }
 {
     let t = get(w, p.tail());
-    let r = get(w, Chain::REL.head());
+    let r = first_number(w, Chain::REL);
     join_at(w, p, t, r);
 }
 

@@ -1,5 +1,6 @@
 // 5 RELEASE f and 7 LEAVE s, b, which ask first whether the units are in use; a RELEASE then asks for the holder.
 ghost use Rattle.std.specs.Prelude.{◌≡◌, ◌<◌};
+ghost use Rattle.rows_laws.specs.All.{Room};
 ghost use Rattle.layout.specs.All.{program_size};
 ghost use Rattle.moves.specs.Motion.{moved, with_outcome};
 ghost use Rattle.state.specs.All.{rows_of};
@@ -13,11 +14,12 @@ use constants::End;
 use layout::{EDITION, FIRST, QL_LENGTH, SECOND, count, number, set_count};
 use moves::{row_goes_on, stop, with_outcome};
 use rows::cells::read;
-use rows::{NUMBER, Row, Server, Work};
-use state::{Moving, Note, Scalars};
+use rows::{NUMBER, Row, Server};
+use state::{Moving, Note, Noting, Scalars};
 
 // Row k enters, and so many units are in use.
-fn enter_freed(work: &mut Work, k: Row, v: Server, units: u64, capacity: u64)
+fn enter_freed(work: &mut [u32], k: Row, v: Server, units: u64, capacity: u64)
+    requires room { Room work.old }
     ensures { (x : Scalars) → x.moving ≡ k
         → moved (with_outcome x 0) work.new ≡ enter_freed work.old x v units capacity }
 {
@@ -28,13 +30,14 @@ fn enter_freed(work: &mut Work, k: Row, v: Server, units: u64, capacity: u64)
 // One unit is given back, and so many are in use then.
 pub fn free_one<const INSTANCE: usize>(
     tables: &[u32],
-    work: &mut Work,
+    work: &mut [u32],
     tally: &mut [u64],
     k: Row,
     clock: u64,
     v: Server,
     left: u64,
 )
+    requires room { Room work.old }
     ensures { (x : Scalars) → x.moving ≡ k → x.clock ≡ clock
         → rows_of (with_outcome x 0) work.new tally.new
         ≡ free_one tables.now work.old tally.old x v left }
@@ -48,7 +51,7 @@ pub fn free_one<const INSTANCE: usize>(
 // So many units are in use then, b of them just given back.
 fn free_some(
     tables: &[u32],
-    work: &mut Work,
+    work: &mut [u32],
     tally: &mut [u64],
     k: Row,
     clock: u64,
@@ -56,6 +59,7 @@ fn free_some(
     units: u64,
     b: u64,
 )
+    requires room { Room work.old }
     ensures { (x : Scalars) → x.moving ≡ k → x.clock ≡ clock
         → rows_of (with_outcome x 0) work.new tally.new
         ≡ free_some tables.now work.old tally.old x v units b }
@@ -87,7 +91,8 @@ fn ask_release(units: u64, taken: u64, who: u64, number: u64) -> Result<(), End>
     Ok(())
 }
 
-pub fn release(tables: &[u32], work: &mut Work, tally: &mut [u64], x: Moving, at: usize) -> Scalars
+pub fn release(tables: &[u32], work: &mut [u32], tally: &mut [u64], x: Moving, at: usize) -> Scalars
+    requires room { Room work.old }
     requires at_lt_program_size { at < program_size }
     ensures { rows_of result work.new tally.new
         ≡ release_rows tables.now work.old tally.old x at }
@@ -101,10 +106,11 @@ pub fn release(tables: &[u32], work: &mut Work, tally: &mut [u64], x: Moving, at
         return stop(s, end);
     }
     free_one::<OFTEN>(tables, work, tally, k, s.clock, v, units.saturating_sub(1));
-    with_outcome(s, Note::Entered)
+    with_outcome(s, Noting::of(Note::Entered))
 }
 
-pub fn leave(tables: &[u32], work: &mut Work, tally: &mut [u64], x: Moving, at: usize) -> Scalars
+pub fn leave(tables: &[u32], work: &mut [u32], tally: &mut [u64], x: Moving, at: usize) -> Scalars
+    requires room { Room work.old }
     requires at_lt_program_size { at < program_size }
     ensures { rows_of result work.new tally.new
         ≡ leave_rows tables.now work.old tally.old x at }
@@ -117,5 +123,5 @@ pub fn leave(tables: &[u32], work: &mut Work, tally: &mut [u64], x: Moving, at: 
         return stop(s, End::NotInUse);
     }
     free_some(tables, work, tally, x.row(), s.clock, v, units - b, b);
-    with_outcome(s, Note::Entered)
+    with_outcome(s, Noting::of(Note::Entered))
 }

@@ -1,5 +1,6 @@
 // 4 SEIZE f and 6 ENTER s, b: a SEIZE takes one unit, and its transaction holds the facility.
 ghost use Rattle.std.specs.Prelude.{◌≡◌, ◌<◌};
+ghost use Rattle.rows_laws.specs.All.{Room};
 ghost use Rattle.layout.specs.All.{program_size};
 ghost use Rattle.state.specs.All.{rows_of};
 ghost use Rattle.state.specs.Notes.{note_number};
@@ -12,8 +13,8 @@ use layout::{EDITION, FIRST, QL_LENGTH, SECOND, count, number, set_count};
 use moves::{row_goes_on, row_waits, with_outcome};
 use rows::cells::read;
 use rows::future::keep_holder;
-use rows::{Chain, NUMBER, Row, Server, Work};
-use state::{Moving, Note, Scalars, update_server};
+use rows::{Chain, NUMBER, Row, Server};
+use state::{Moving, Note, Noting, Scalars, update_server};
 
 // What takes or frees units has an instance for SEIZE and RELEASE, which come often, and one for the other kinds: with one caller it is built
 // into the turn, where tests of indices fall away. With one for each kind the turn is longer and slower (ql1000: 24.3 and 23.4 million
@@ -24,7 +25,7 @@ pub const SELDOM: usize = 1;
 
 // Row `moving` enters; so many units are in use, and `who`, whose row is k, holds the server, 0 for nobody; 1 for by PREEMPT.
 pub fn hold_units<const INSTANCE: usize>(
-    work: &mut Work,
+    work: &mut [u32],
     tally: &mut [u64],
     moving: Row,
     clock: u64,
@@ -35,6 +36,7 @@ pub fn hold_units<const INSTANCE: usize>(
     preempts: u64,
     capacity: u64,
 )
+    requires room { Room work.old }
     ensures { (x : Scalars) → x.moving ≡ moving → x.clock ≡ clock
         → rows_of (with_outcome x 0) work.new tally.new
         ≡ hold_units work.old tally.old x v units who k preempts capacity }
@@ -47,7 +49,7 @@ pub fn hold_units<const INSTANCE: usize>(
 
 // Row k waits on the QL.
 fn queue_up(
-    work: &mut Work,
+    work: &mut [u32],
     tally: &mut [u64],
     k: Row,
     serial: u32,
@@ -55,6 +57,7 @@ fn queue_up(
     v: Server,
     edition: u32,
 ) -> Note
+    requires room { Room work.old }
     ensures { (x : Scalars) → x.moving ≡ k → x.serial ≡ serial → x.clock ≡ clock
         → rows_of (with_outcome x (note_number result)) work.new tally.new
         ≡ queue_up work.old tally.old x v edition }
@@ -69,7 +72,7 @@ fn queue_up(
 // Row k enters with b units, or waits.
 pub fn take_units<const INSTANCE: usize>(
     tables: &[u32],
-    work: &mut Work,
+    work: &mut [u32],
     tally: &mut [u64],
     k: Row,
     serial: u32,
@@ -79,6 +82,7 @@ pub fn take_units<const INSTANCE: usize>(
     who: u64,
     preempts: u64,
 ) -> Note
+    requires room { Room work.old }
     ensures { (x : Scalars) → x.moving ≡ k → x.serial ≡ serial → x.clock ≡ clock
         → rows_of (with_outcome x (note_number result)) work.new tally.new
         ≡ take_units tables.now work.old tally.old x v b who preempts }
@@ -103,7 +107,8 @@ pub fn take_units<const INSTANCE: usize>(
     queue_up(work, tally, k, serial, clock, v, number(tables, EDITION))
 }
 
-pub fn seize(tables: &[u32], work: &mut Work, tally: &mut [u64], x: Moving, at: usize) -> Scalars
+pub fn seize(tables: &[u32], work: &mut [u32], tally: &mut [u64], x: Moving, at: usize) -> Scalars
+    requires room { Room work.old }
     requires at_lt_program_size { at < program_size }
     ensures { rows_of result work.new tally.new
         ≡ seize_rows tables.now work.old tally.old x at }
@@ -113,10 +118,11 @@ pub fn seize(tables: &[u32], work: &mut Work, tally: &mut [u64], x: Moving, at: 
     let k = x.row();
     let number = read(work, NUMBER, k) as u64;
     let outcome = take_units::<OFTEN>(tables, work, tally, k, s.serial, s.clock, v, 1, number, 0);
-    with_outcome(s, outcome)
+    with_outcome(s, Noting::of(outcome))
 }
 
-pub fn enter(tables: &[u32], work: &mut Work, tally: &mut [u64], x: Moving, at: usize) -> Scalars
+pub fn enter(tables: &[u32], work: &mut [u32], tally: &mut [u64], x: Moving, at: usize) -> Scalars
+    requires room { Room work.old }
     requires at_lt_program_size { at < program_size }
     ensures { rows_of result work.new tally.new
         ≡ enter_rows tables.now work.old tally.old x at }
@@ -125,5 +131,5 @@ pub fn enter(tables: &[u32], work: &mut Work, tally: &mut [u64], x: Moving, at: 
     let b = number(tables, at + SECOND) as u64;
     let s = x.scalars();
     let outcome = take_units::<SELDOM>(tables, work, tally, x.row(), s.serial, s.clock, v, b, 0, 0);
-    with_outcome(s, outcome)
+    with_outcome(s, Noting::of(outcome))
 }

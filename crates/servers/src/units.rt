@@ -11,7 +11,7 @@ use state::update_server;
 
 const RESIDUES: u64 = layout::RESIDUES as u64;
 
-const CODES: u32 = layout::CODES as u32;
+pub const CODES: u32 = layout::CODES as u32;
 
 // The server that a block names at an index of the tables.
 pub fn server_at(tables: &[u32], at: usize) -> Server
@@ -150,5 +150,16 @@ impl Code {
             Code::Full => units == capacity,
             Code::NotFull => units != capacity,
         }
+    }
+}
+
+// The same by a number: from 6 on, each names what 5 does.
+pub fn status(code: u32, units: u64, capacity: u64) -> bool
+    ensures { result ≡ status_of code units capacity }
+{
+    if code < CODES {
+        Code::of(code).holds(units, capacity)
+    } else {
+        Code::NotFull.holds(units, capacity)
     }
 }

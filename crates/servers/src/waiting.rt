@@ -1,5 +1,6 @@
 // 8 WAITIF code, server, and 17 (document 02, item 7) code, server, back count.
 ghost use Rattle.std.specs.Prelude.{◌≡◌, ◌+◌, ◌<◌};
+ghost use Rattle.rows_laws.specs.All.{Room};
 ghost use Rattle.machine.specs.All.{max_back};
 ghost use Rattle.layout.specs.All.{block_width, program_size};
 ghost use Rattle.moves.specs.Motion.{moved};
@@ -11,7 +12,7 @@ use layout::{BLOCK_WIDTH, EDITION, FIRST, SECOND, THIRD, number};
 use moves::{go_back, go_on, wait_on};
 use rows::cells::{set_time, time};
 use rows::wake::wake_first;
-use rows::{Chain, Row, Work};
+use rows::{Chain, Row};
 use state::{Moving, Scalars};
 
 // The back count of the block at `at`, 0 for kind 8.
@@ -45,14 +46,16 @@ fn begins_group(tables: &[u32], at: usize) -> bool
 }
 
 // With a back count: it last entered the first block of its group at an earlier clock.
-fn late(work: &Work, x: Moving, c: u32) -> bool
+fn late(work: &[u32], x: Moving, c: u32) -> bool
+    requires room { Room work.now }
     ensures { result ≡ is_late work.now x c }
 {
     c != 0 && time(work, x.row()) < x.scalars().clock
 }
 
 // The first of a list goes to REL, and it goes back to the first block of its group.
-fn back_from(work: &mut Work, x: Moving, list: Chain, c: u32) -> Scalars
+fn back_from(work: &mut [u32], x: Moving, list: Chain, c: u32) -> Scalars
+    requires room { Room work.old }
     ensures { moved result work.new ≡ back_from work.old x list c }
 {
     wake_first(work, list);
@@ -60,7 +63,8 @@ fn back_from(work: &mut Work, x: Moving, list: Chain, c: u32) -> Scalars
 }
 
 // It takes the clock as its stamp and goes on.
-fn stamp_on(work: &mut Work, x: Moving) -> Scalars
+fn stamp_on(work: &mut [u32], x: Moving) -> Scalars
+    requires room { Room work.old }
     ensures { moved result work.new ≡ stamp_on work.old x }
 {
     set_time(work, x.row(), x.scalars().clock);
@@ -68,7 +72,8 @@ fn stamp_on(work: &mut Work, x: Moving) -> Scalars
 }
 
 // It enters, and the first of list p goes to REL.
-fn pass_on(work: &mut Work, x: Moving, p: Chain, begins: bool) -> Scalars
+fn pass_on(work: &mut [u32], x: Moving, p: Chain, begins: bool) -> Scalars
+    requires room { Room work.old }
     ensures { moved result work.new ≡ pass_on work.old x p begins }
 {
     wake_first(work, p);
@@ -79,7 +84,8 @@ fn pass_on(work: &mut Work, x: Moving, p: Chain, begins: bool) -> Scalars
 }
 
 // The condition is not true.
-fn pass_or_back(tables: &[u32], work: &mut Work, x: Moving, at: usize, p: Chain) -> Scalars
+fn pass_or_back(tables: &[u32], work: &mut [u32], x: Moving, at: usize, p: Chain) -> Scalars
+    requires room { Room work.old }
     requires at_lt_program_size { at < program_size }
     ensures { moved result work.new ≡ pass_or_back tables.now work.old x at p }
 {
@@ -94,12 +100,13 @@ fn pass_or_back(tables: &[u32], work: &mut Work, x: Moving, at: usize, p: Chain)
 // It waits on list p while the code is true.
 fn wait_while(
     tables: &[u32],
-    work: &mut Work,
+    work: &mut [u32],
     x: Moving,
     at: usize,
     p: Chain,
     holds: bool,
 ) -> Scalars
+    requires room { Room work.old }
     requires at_lt_program_size { at < program_size }
     ensures { moved result work.new ≡ wait_while tables.now work.old x at p holds }
 {
@@ -109,7 +116,8 @@ fn wait_while(
     pass_or_back(tables, work, x, at, p)
 }
 
-pub fn wait_server(tables: &[u32], work: &mut Work, tally: &[u64], x: Moving, at: usize) -> Scalars
+pub fn wait_server(tables: &[u32], work: &mut [u32], tally: &[u64], x: Moving, at: usize) -> Scalars
+    requires room { Room work.old }
     requires at_lt_program_size { at < program_size }
     ensures { moved result work.new ≡ wait_server_rows tables.now work.old tally.now x at }
 {

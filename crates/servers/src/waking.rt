@@ -3,7 +3,7 @@ ghost use Rattle.std.specs.Prelude.{◌≡◌, ◌<◌};
 ghost use Rattle.machine.specs.All.{max_blocks};
 ghost use Rattle.layout.specs.All.{program_size};
 ghost use Rattle.servers.specs.Codes.{code_number};
-ghost use Rattle.rows_laws.specs.All.{head, wake_walk, wake_first};
+ghost use Rattle.rows_laws.specs.All.{Room, head, wake_walk, wake_first};
 ghost use Rattle.servers_laws.specs.Waking.{check_wel, check_first, check_last, check_wels, shorter, units_at, member_units, member_fits, leave_with, taken_off, left_behind, member_left, steps, wake_stays, too_many_lem, none_too_many, ahead_of, at_once_lem, woken_rows, woken_length};
 
 use crate::units::{Code, server_at};
@@ -14,7 +14,7 @@ use rows::lists::first;
 use rows::order::outranks;
 use rows::wake::{pass, wake_first};
 use rows::whole::wake_whole;
-use rows::{Chain, LINKS, NEXT, ROWS, Row, Server, Work};
+use rows::{Chain, LINKS, NEXT, ROWS, Row, Server};
 
 const BLOCKS: u32 = Model::MAX_BLOCKS as u32;
 
@@ -22,7 +22,8 @@ const BLOCKS: u32 = Model::MAX_BLOCKS as u32;
 const MANY: u64 = 64;
 
 // The WEL of a server and a code gives its first, if the code is not true.
-fn check_wel(work: &mut Work, v: Server, code: Code, units: u64, capacity: u64)
+fn check_wel(work: &mut [u32], v: Server, code: Code, units: u64, capacity: u64)
+    requires room { Room work.old }
     ensures { work.new ≡ check_wel work.old v (code_number code) units capacity }
 {
     if !code.holds(units, capacity) {
@@ -30,7 +31,8 @@ fn check_wel(work: &mut Work, v: Server, code: Code, units: u64, capacity: u64)
     }
 }
 
-fn check_first(work: &mut Work, v: Server, units: u64, capacity: u64)
+fn check_first(work: &mut [u32], v: Server, units: u64, capacity: u64)
+    requires room { Room work.old }
     ensures { work.new ≡ check_first work.old v units capacity }
 {
     check_wel(work, v, Code::InUse, units, capacity);
@@ -38,7 +40,8 @@ fn check_first(work: &mut Work, v: Server, units: u64, capacity: u64)
     check_wel(work, v, Code::Empty, units, capacity);
 }
 
-fn check_last(work: &mut Work, v: Server, units: u64, capacity: u64)
+fn check_last(work: &mut [u32], v: Server, units: u64, capacity: u64)
+    requires room { Room work.old }
     ensures { work.new ≡ check_last work.old v units capacity }
 {
     check_wel(work, v, Code::NotEmpty, units, capacity);
@@ -47,7 +50,8 @@ fn check_last(work: &mut Work, v: Server, units: u64, capacity: u64)
 }
 
 // "After blocks 4 to 7 enter, each WEL of that server whose code is not true gives its first to REL."
-pub fn check_wels(work: &mut Work, v: Server, units: u64, capacity: u64)
+pub fn check_wels(work: &mut [u32], v: Server, units: u64, capacity: u64)
+    requires room { Room work.old }
     ensures { work.new ≡ check_wels work.old v units capacity }
 {
     check_first(work, v, units, capacity);
@@ -55,7 +59,8 @@ pub fn check_wels(work: &mut Work, v: Server, units: u64, capacity: u64)
 }
 
 // The first of the QL goes to REL.
-pub fn wake_first_ql(work: &mut Work, tally: &mut [u64], v: Server)
+pub fn wake_first_ql(work: &mut [u32], tally: &mut [u64], v: Server)
+    requires room { Room work.old }
     ensures rows { work.new ≡ wake_first work.old v }
     ensures lengths { tally.new ≡ shorter tally.old v }
 {
@@ -81,7 +86,8 @@ fn units_at(tables: &[u32], at: usize) -> u64
 }
 
 // The units that row k waits for.
-fn member_units(tables: &[u32], work: &Work, k: Row) -> u64
+fn member_units(tables: &[u32], work: &[u32], k: Row) -> u64
+    requires room { Room work.now }
     ensures { result ≡ member_units tables.now work.now k }
 {
     let block = read(work, NEXT, k).saturating_sub(1) % BLOCKS;
@@ -115,7 +121,8 @@ fn left_behind(edition: u32, left: u64, units: u64) -> u64
 }
 
 // Those of the QL whose units fit what is left go to REL, one by one; the answer is how many stay.
-fn wake_ql(tables: &[u32], work: &mut Work, v: Server, edition: u32, all: u64) -> u64
+fn wake_ql(tables: &[u32], work: &mut [u32], v: Server, edition: u32, all: u64) -> u64
+    requires room { Room work.old }
     ensures rows { work.new
         ≡ wake_walk (member_fits tables.now) (member_left tables.now edition)
         steps all work.old v (head v) }
@@ -168,7 +175,8 @@ fn none_too_many(tables: &[u32], v: Server, left: u64) -> bool
 }
 
 // Does the last of the QL stand before the first of REL, if there is one?
-fn ahead_of(work: &Work, v: Server) -> bool
+fn ahead_of(work: &[u32], v: Server) -> bool
+    requires room { Room work.now }
     ensures { result ≡ ahead_of work.now v }
 {
     let Some(r) = first(work, Chain::REL) else {
@@ -181,7 +189,8 @@ fn ahead_of(work: &Work, v: Server) -> bool
 }
 
 // Do all n of a QL go to REL at once, under edition 1, with so many units left?
-fn at_once(tables: &[u32], work: &Work, v: Server, edition: u32, left: u64, n: u64) -> bool
+fn at_once(tables: &[u32], work: &[u32], v: Server, edition: u32, left: u64, n: u64) -> bool
+    requires room { Room work.now }
     ensures { result ≡ at_once_lem tables.now work.now v edition left n }
 {
     if n < MANY {
@@ -200,7 +209,15 @@ fn at_once(tables: &[u32], work: &Work, v: Server, edition: u32, left: u64, n: u
 }
 
 // Those of a QL of n whose units fit what is left go to REL; the answer is how many stay.
-pub fn wake_some(tables: &[u32], work: &mut Work, v: Server, edition: u32, left: u64, n: u64) -> u64
+pub fn wake_some(
+    tables: &[u32],
+    work: &mut [u32],
+    v: Server,
+    edition: u32,
+    left: u64,
+    n: u64,
+) -> u64
+    requires room { Room work.old }
     ensures rows { work.new ≡ woken_rows tables.now work.old v edition left n }
     ensures stays { result ≡ woken_length tables.now work.old v edition left n }
 {

@@ -4,6 +4,7 @@
 #![tactic(auto)]
 
 ghost use Rattle.std.specs.Prelude.{◌≡◌, ◌<◌, ◌≤◌};
+ghost use Rattle.rows_laws.specs.All.{Room};
 ghost use Rattle.machine.specs.All.{min, max_blocks, max_lists};
 ghost use Rattle.layout.specs.All.{most32};
 ghost use Rattle.state.specs.All.{rows_of};
@@ -14,7 +15,6 @@ use flow::{arrives, next_sample, one_made, times_left};
 use layout::{
     BLOCK_WIDTH, FIRST, LIST_AT, LIST_COUNTS, LIST_LEFT, SECOND, count, number, set_count,
 };
-use rows::Work;
 use rows::make::initialise;
 use state::{Mover, Note, Noting, Scalars, Stopped};
 
@@ -66,11 +66,12 @@ fn begin_scalars(counter: usize) -> Scalars
 fn begin_list(
     tables: &[u32],
     tape: &[u8],
-    work: &mut Work,
+    work: &mut [u32],
     tally: &mut [u64],
     x: Scalars,
     b: usize,
 ) -> Scalars
+    requires room { Room work.old }
     requires b_lt_max_blocks { b < max_blocks }
     ensures { rows_of result work.new tally.new ≡ begin_list tables.now tape.now
         (rows_of x work.old tally.old) b }
@@ -98,11 +99,12 @@ fn begin_list(
 fn begin_block(
     tables: &[u32],
     tape: &[u8],
-    work: &mut Work,
+    work: &mut [u32],
     tally: &mut [u64],
     x: Scalars,
     b: usize,
 ) -> Scalars
+    requires room { Room work.old }
     requires b_lt_max_blocks { b < max_blocks }
     ensures { rows_of result work.new tally.new ≡ begin_block tables.now tape.now
         (rows_of x work.old tally.old) b }
@@ -116,11 +118,12 @@ fn begin_block(
 fn begin_blocks(
     tables: &[u32],
     tape: &[u8],
-    work: &mut Work,
+    work: &mut [u32],
     tally: &mut [u64],
     x: Scalars,
     blocks: usize,
 ) -> Scalars
+    requires room { Room work.old }
     requires blocks_le_max_blocks { blocks ≤ max_blocks }
     ensures { rows_of result work.new tally.new ≡ begin_blocks blocks tables.now tape.now
         (rows_of x work.old tally.old) 0 }
@@ -138,9 +141,10 @@ pub fn begin(
     tables: &[u32],
     tape: &[u8],
     lists: &[u64],
-    work: &mut Work,
+    work: &mut [u32],
     tally: &mut [u64],
 ) -> Scalars
+    requires room { Room work.old }
     ensures { rows_of result work.new tally.new ≡ start_rows model tables.now tape.now lists.now
         work.old tally.old }
 {

@@ -1,9 +1,10 @@
 // What a turn hands on beside the buffers. Who moves, the end and the note are numbers in clauses: `NOBODY` moves, end 0 is none, and a
-// note is the outcome that a record has (state specs/Notes).
+// note is the outcome that a record has (state specs/Notes). Each takes any number, as what speaks of scalars does.
 ghost use Rattle.std.specs.Prelude.{◌≡◌, ◌<◌, ◌≤◌, MatchOption};
 ghost use Rattle.constants.specs.Numbers.{end_number};
 ghost use Rattle.rows_laws.specs.All.{row_count, IsRow};
-ghost use Rattle.state.specs.Notes.{end_or_0, note_number};
+ghost use Rattle.machine.specs.All.{eqb, min, not};
+ghost use Rattle.state.specs.Notes.{note_number};
 
 use constants::End;
 use rows::{ROWS, Row};
@@ -34,6 +35,13 @@ impl Mover {
         Mover { k: k.number() }
     }
 
+    // The row of this number, nobody from ROWS on.
+    pub fn of_number(n: u32) -> Mover
+        ensures { result ≡ n }
+    {
+        Mover { k: n }
+    }
+
     pub fn row(self) -> Option<Row>
         ensures { IsRow self result }
     {
@@ -55,9 +63,10 @@ pub enum Note {
     NoRecord = 2,
 }
 
+// Its number: any from 2 on is none.
 #[derive(Clone, Copy)]
 pub struct Noting {
-    note: Note,
+    note: u32,
 }
 
 impl Model for Noting {
@@ -65,33 +74,45 @@ impl Model for Noting {
 
     ghost Value = { ℕ };
 
-    ghost use Rattle.state.specs.Notes.{noted_number, noted_of, note-back};
+    ghost view = { λ m. m.note };
 
-    ghost view = { noted_number };
-
-    ghost inverse = { noted_of };
-
-    ghost inverse_ok = { λ a h i. record { note = note-back a.note i } };
+    ghost inverse = { λ n. record { note = n } };
 }
 
 impl Noting {
     pub fn of(note: Note) -> Noting
         ensures { result ≡ note_number note }
     {
-        Noting { note }
+        Noting { note: note as u32 }
+    }
+
+    pub fn of_number(n: u32) -> Noting
+        ensures { result ≡ n }
+    {
+        Noting { note: n }
     }
 
     pub fn note(self) -> Note
-        ensures { note_number result ≡ self }
+        ensures { note_number result ≡ min self 2 }
+    {
+        match self.note {
+            0 => Note::Entered,
+            1 => Note::Waits,
+            _ => Note::NoRecord,
+        }
+    }
+
+    pub fn number(self) -> u32
+        ensures { result ≡ self }
     {
         self.note
     }
 }
 
-// The end of the run, once there is one.
+// The number of the end of the run, 0 as long as it goes on.
 #[derive(Clone, Copy)]
 pub struct Stopped {
-    end: Option<End>,
+    end: u32,
 }
 
 impl Model for Stopped {
@@ -99,13 +120,9 @@ impl Model for Stopped {
 
     ghost Value = { ℕ };
 
-    ghost use Rattle.state.specs.Notes.{stopped_number, stopped_of, end-back};
+    ghost view = { λ m. m.end };
 
-    ghost view = { stopped_number };
-
-    ghost inverse = { stopped_of };
-
-    ghost inverse_ok = { λ a h i. record { end = end-back a.end i } };
+    ghost inverse = { λ n. record { end = n } };
 }
 
 impl Stopped {
@@ -113,17 +130,30 @@ impl Stopped {
     pub fn none() -> Stopped
         ensures { result ≡ 0 }
     {
-        Stopped { end: None }
+        Stopped { end: 0 }
+    }
+
+    pub fn of_number(n: u32) -> Stopped
+        ensures { result ≡ n }
+    {
+        Stopped { end: n }
     }
 
     pub fn at(end: End) -> Stopped
         ensures { result ≡ end_number end }
     {
-        Stopped { end: Some(end) }
+        Stopped { end: end.number() }
     }
 
-    pub fn end(self) -> Option<End>
-        ensures { end_or_0 result ≡ self }
+    // Is there an end?
+    pub fn ended(self) -> bool
+        ensures { result ≡ not (eqb self 0) }
+    {
+        self.end != 0
+    }
+
+    pub fn number(self) -> u32
+        ensures { result ≡ self }
     {
         self.end
     }
@@ -191,6 +221,15 @@ impl Moving {
         match x.moving.row() {
             Some(_) => Some(Moving { scalars: x }),
             None => None,
+        }
+    }
+
+    // The same, its scalars field by field.
+    pub fn afresh(self) -> Moving
+        ensures { result ≡ self }
+    {
+        Moving {
+            scalars: by_fields(self.scalars),
         }
     }
 

@@ -103,8 +103,8 @@ fn print_largest(rt: &impl Print, clock: u64) -> io::Result<()> {
             print_bytes(rt, &bytes)?;
         }
         Err(refusal) => {
-            print!(rt; " ")?;
-            print_refusal(rt, refusal)?;
+            let n = refusal.number();
+            print!(rt; " refused {n}")?;
         }
     }
     println!(rt)

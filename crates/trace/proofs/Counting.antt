@@ -1,5 +1,6 @@
 -- Counts of lists: together, at most their length, byte by byte, and of lists cut into pieces.
 use Rattle.machine.specs.All.{ℕ, zero, suc, ◌+◌, ◌*◌, ◌≤◌, ◌<◌, arith, Bool, true, false, cond, List, [], ◌∷◌, ◌++◌, ◌≡◌, refl, ap, sym, ◌∙◌, ltb, length, take, drop, get_or, take-append-drop, drop-drop, count_low}
+use Rattle.trace.specs.{part}
 use mir.Val.{bool_byte}
 use Rattle.std.specs.{List.concat, Simd.first_chunks}
 use Rattle.std.proofs.lemmas.{List.take_more, List.Folds.concat-append}
@@ -91,3 +92,11 @@ pub in-all : (n m : ℕ) (s : List ℕ) {words : List (List ℕ)} {ends : List �
     count_low (concat left) + in_groups groups + count_low ends ≡ count_low s
 in-all n m s {words} j k w e g l =
     omega (arith, ap (λ (x : List (List ℕ)). count_low (concat x)) w, ap count_low e, ap in_groups g, ap (λ (x : List (List ℕ)). count_low (concat x)) l, in-words n k s, in-groups m j words)
+
+-- the part of n bytes from i on is counted, and what follows it is left
+pub counted : (s : List ℕ) (i n count : ℕ) {r : ℕ} → r ≡ count_low (part s i n) → count + count_low (drop i s) ≡ count_low s →
+    count + r + count_low (drop (i + n) s) ≡ count_low s
+unfolding part
+counted s i n count e all =
+    let rest = sym (take-append-drop n (drop i s)) ∙ ap (λ (l : List ℕ). take n (drop i s) ++ l) (drop-drop n i s) in
+    omega (arith, ap count_low rest, count_low-append (take n (drop i s)) (drop (i + n) s))

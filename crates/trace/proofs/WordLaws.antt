@@ -1,13 +1,51 @@
 -- Laws of words: what a word holds, its marks for every word, and marks of neighbouring parts added.
-use Rattle.machine.specs.All.{ℕ, zero, suc, ◌+◌, ◌*◌, ◌/◌, ◌%◌, ◌^◌, ◌<◌, mod-eq_of_lt, pow-suc, mul-add-mod_self_left, arith, Bool, true, false, cond, List, [], ◌∷◌, ◌++◌, ◌≡◌, refl, sym, ap, ap₂, ◌∙◌, ltb, length, get_or, ltb-true, ltb-false, count_low, take, append-nil}
+use Rattle.machine.specs.All.{add_comm, zero-add, suc-add, mul_comm, mul_assoc, add-mul-mod_self_right, add-mul-div_right, subst, drop, take-add, drop-drop, drop-cons, ℕ, zero, suc, ◌+◌, ◌*◌, ◌/◌, ◌%◌, ◌^◌, ◌<◌, mod-eq_of_lt, pow-suc, mul-add-mod_self_left, arith, Bool, true, false, cond, List, [], ◌∷◌, ◌++◌, ◌≡◌, refl, sym, ap, ap₂, ◌∙◌, ltb, length, get_or, ltb-true, ltb-false, count_low, take, append-nil}
 use native.Mathlib.Nat.{add-mod}
 use Rattle.std.proofs.Math.Nat.{div-div-eq-div-mul}
+use lib.Arith.{digits_lt}
+use lib.Pow.{pow-add}
 use lib.Bits.{bit_and, and_block, and_mask, and_le_r, and_zero_r}
 use mir.Syntax.{w64}
 use Rattle.std.specs.{List.concat, Int.byte_at, Int.bytes_low_first, Int.from_le_bytes}
 use Rattle.std.proofs.lemmas.{Nat.le_bytes_8, List.take_more, List.Folds.concat-append}
 use Rattle.trace.proofs.Counting.{count_low-append}
-use Rattle.trace.specs.{bytes_of, ones, Marks}
+use Rattle.trace.specs.{part, bytes_of, Holds, ones, Marks}
+
+-- ---- Parts of a list
+
+pub part_join : (s : List ℕ) (at n m : ℕ) → part s at (n + m) ≡ part s at n ++ part s (at + n) m
+unfolding part
+part_join s at n m = take-add n m (drop at s) ∙ ap (λ (l : List ℕ). take n (drop at s) ++ take m l) (drop-drop n at s)
+
+-- ---- What a word holds
+
+bytes-join : (n m : ℕ) {lo : ℕ} (hi : ℕ) → lo < 256 ^ n → bytes_of (n + m) (lo + hi * 256 ^ n) ≡ bytes_of n lo ++ bytes_of m hi
+unfolding bytes_of
+bytes-join zero m {lo} hi h =
+    let word : lo + hi * 256 ^ 0 ≡ hi = omega arith in
+    cc (word, zero-add m)
+bytes-join (suc n) m {lo} hi h =
+    let upper = ap (λ (x : ℕ). hi * x) (pow-suc 256 n) ∙ sym (mul_assoc hi (256 ^ n) 256) in
+    ap (λ (x : ℕ). bytes_of x (lo + hi * 256 ^ suc n)) (suc-add n m)
+    ∙ ap (λ (x : ℕ). bytes_of (suc (n + m)) (lo + x)) upper
+    ∙ ap (λ (x : ℕ). x ∷ bytes_of (n + m) ((lo + hi * 256 ^ n * 256) / 256)) (add-mul-mod_self_right lo _ 256)
+    ∙ ap (λ (x : ℕ). lo % 256 ∷ bytes_of (n + m) x) (add-mul-div_right lo _ (omega arith))
+    ∙ ap (λ (l : List ℕ). lo % 256 ∷ l) (bytes-join n m hi (omega arith))
+
+holds-join : {n m lo hi : ℕ} {l k : List ℕ} → Holds n l lo → Holds m k hi → Holds (n + m) (l ++ k) (lo + hi * 256 ^ n)
+holds-join {n} {m} {lo} {hi} a b = record { bytes = bytes-join n m hi a.below ∙ both a.bytes b.bytes; below = bound }
+  where
+    both : {x y z w : List ℕ} → x ≡ y → z ≡ w → x ++ z ≡ y ++ w
+    both {x} {y} {z} {w} e f = cc
+
+    bound : lo + hi * 256 ^ n < 256 ^ (n + m)
+    bound =
+        rw (pow-add 256 n m, ← mul_comm (256 ^ m) (256 ^ n))
+        (subst (λ (x : ℕ). x < 256 ^ m * 256 ^ n) (add_comm (hi * 256 ^ n) lo) (digits_lt b.below a.below))
+
+pub holds_byte : (s : List ℕ) (at : ℕ) {b : ℕ} → at < length s → b ≡ get_or s at 0 → b < 256 → Holds 1 (part s at 1) b
+unfolding bytes_of part
+holds_byte s at h e small = record { bytes = rw (drop-cons s at 0 h, ← e, mod-eq_of_lt small); below = small }
 
 -- ---- The bytes of a word
 

@@ -10,7 +10,7 @@ ghost use Rattle.machine.specs.All.{true, ℕ, leb, length, sets, in_force, coun
 ghost use Rattle.codec.specs.Answers.{cursor_at, parsed_of};
 ghost use Rattle.trace.specs.Answers.{entry_of, reading_of, writing_of, after};
 
-use codec::{number_len, put_number, read_field, write_number};
+use codec::{number_len, put_number, read_text, write_number};
 use constants::{Model, Refusal, Text};
 use words::count_words;
 
@@ -32,7 +32,7 @@ pub fn trace_field(s: &[u8], at: usize, lo: u64, hi: u64) -> Result<(u64, usize)
     ensures by_index { (numbers mentions : ℕ) → parsed_of numbers mentions result ≡ trace_field in_force s.now lo hi (cursor_at at numbers mentions) }
     ensures inside { (v next : ℕ) → result ≡ Ok (v, next) → (lo ≤ v) × (v ≤ hi) × (at < next) × (next ≤ length s.now) }
 {
-    read_field(s, at, Model::FIVE_GROUPS, lo, hi, Text::Trace)
+    read_text(s, at, Model::FIVE_GROUPS, lo, hi, Text::Trace)
 }
 
 // The record at a position and the position after it; `None` where there are no more.

@@ -1,5 +1,6 @@
 // The parts of a turn in their order.
 ghost use Rattle.std.specs.Prelude.{◌≡◌, ◌≤◌};
+ghost use Rattle.rows_laws.specs.All.{Room};
 ghost use Rattle.machine.specs.All.{max_blocks, max_facilities};
 ghost use Rattle.state.specs.All.{rows_of};
 ghost use Rattle.turn_laws.specs.Turn.{traced, act, act_moving, clock_asks, next_of, asks, scheme_if, after_taking, turn};
@@ -11,7 +12,7 @@ use constants::Model;
 use layout::{ASKED, BLOCK_WIDTH, CLOCK_ASKED, TABLES, TALLY};
 use rows::cells::read;
 use rows::lists::first;
-use rows::{Chain, NEXT, NUMBER, Work};
+use rows::{Chain, NEXT, NUMBER};
 use state::{Moving, Scalars};
 use values_queues::ws;
 
@@ -21,13 +22,14 @@ fn act(
     values: usize,
     facilities: usize,
     tape: &[u8],
-    work: &mut Work,
+    work: &mut [u32],
     tally: &mut [u64; TALLY],
     trace: &mut [u8],
     x: Moving,
     number: u32,
     block: u32,
 ) -> Scalars
+    requires room { Room work.old }
     requires facilities_le_max_facilities { facilities ≤ max_facilities }
     ensures { traced (rows_of result work.new tally.new) trace.new
         ≡ act tables.now values facilities tape.now work.old tally.old
@@ -56,11 +58,12 @@ fn act_moving(
     values: usize,
     facilities: usize,
     tape: &[u8],
-    work: &mut Work,
+    work: &mut [u32],
     tally: &mut [u64; TALLY],
     trace: &mut [u8],
     x: Scalars,
 ) -> Scalars
+    requires room { Room work.old }
     requires facilities_le_max_facilities { facilities ≤ max_facilities }
     ensures { traced (rows_of result work.new tally.new) trace.new
         ≡ act_moving tables.now values facilities tape.now work.old tally.old
@@ -86,7 +89,8 @@ fn clock_asked(tables: &[u32; TABLES], before: u64, after: u64) -> bool
 }
 
 // The block that who moves stands before, 0 where nobody does.
-fn next_of(work: &Work, x: &Scalars) -> u32
+fn next_of(work: &[u32], x: &Scalars) -> u32
+    requires room { Room work.now }
     ensures { result ≡ next_of work.now x.now.moving }
 {
     match x.moving.row() {
@@ -115,11 +119,12 @@ fn scheme(
     tables: &[u32; TABLES],
     blocks: usize,
     values: usize,
-    work: &mut Work,
+    work: &mut [u32],
     tally: &[u64; TALLY],
     x: &Scalars,
     asks: bool,
 )
+    requires room { Room work.old }
     requires blocks_le_max_blocks { blocks ≤ max_blocks }
     ensures { work.new ≡ scheme_if asks tables.now blocks values tally.now x.now work.old }
 {
@@ -133,12 +138,13 @@ fn scheme_after(
     tables: &[u32; TABLES],
     blocks: usize,
     values: usize,
-    work: &mut Work,
+    work: &mut [u32],
     tally: &[u64; TALLY],
     x: &Scalars,
     before: u64,
     block: u32,
 )
+    requires room { Room work.old }
     requires blocks_le_max_blocks { blocks ≤ max_blocks }
     ensures { work.new ≡ scheme_if (asks tables.now before x.now.clock block) tables.now blocks values
         tally.now x.now work.old }
@@ -155,12 +161,13 @@ fn after_taking(
     model: Model,
     tables: &[u32; TABLES],
     tape: &[u8],
-    work: &mut Work,
+    work: &mut [u32],
     tally: &mut [u64; TALLY],
     trace: &mut [u8],
     before: u64,
     x: Scalars,
 ) -> Scalars
+    requires room { Room work.old }
     requires facilities_le_max_facilities { model.facilities ≤ max_facilities }
     requires blocks_le_max_blocks { model.blocks ≤ max_blocks }
     ensures { traced (rows_of result work.new tally.new) trace.new
@@ -195,11 +202,12 @@ pub fn turn(
     model: Model,
     tables: &[u32; TABLES],
     tape: &[u8],
-    work: &mut Work,
+    work: &mut [u32],
     tally: &mut [u64; TALLY],
     trace: &mut [u8],
     x: Scalars,
 ) -> Scalars
+    requires room { Room work.old }
     requires facilities_le_max_facilities { model.facilities ≤ max_facilities }
     requires blocks_le_max_blocks { model.blocks ≤ max_blocks }
     ensures { traced (rows_of result work.new tally.new) trace.new

@@ -1,18 +1,10 @@
 // The record of a block, written behind the others, and the count of its entries or waits.
 ghost use Rattle.std.specs.Prelude.{◌≡◌};
-ghost use Rattle.state.specs.Notes.{note_number};
 ghost use Rattle.turn_laws.specs.Note.{bytes, append_record, cell_of, count_record, noted, note_record};
 
 use layout::{WAITS, count, set_count};
-use state::{Note, Scalars};
+use state::{Note, Noting, Scalars};
 use trace::{Record, write_record};
-
-// The outcome as a record has it.
-fn outcome_number(outcome: Note) -> u64
-    ensures { result ≡ note_number outcome }
-{
-    outcome as u64
-}
 
 // Writes a record into the unused rest of the trace buffer; answers how many bytes are used then.
 pub fn append_record(
@@ -21,9 +13,9 @@ pub fn append_record(
     clock: u64,
     number: u32,
     block: u32,
-    outcome: Note,
+    outcome: Noting,
 ) -> usize
-    ensures { bytes result trace.new ≡ append_record trace.old used clock number block (note_number outcome) }
+    ensures { bytes result trace.new ≡ append_record trace.old used clock number block outcome }
 {
     if trace.len() < used {
         return used;
@@ -32,7 +24,7 @@ pub fn append_record(
         clock,
         transaction: number as u64,
         block: block as u64,
-        outcome: outcome_number(outcome),
+        outcome: outcome.number() as u64,
     };
     match write_record(&mut trace[used..], record) {
         Ok(n) => used + n,
@@ -41,18 +33,18 @@ pub fn append_record(
 }
 
 // Entries of block b stand at b - 1 of the tally, its waits at WAITS + b - 1.
-fn cell(block: u32, outcome: Note) -> usize
-    ensures { result ≡ cell_of block (note_number outcome) }
+fn cell(block: u32, outcome: Noting) -> usize
+    ensures { result ≡ cell_of block outcome }
 {
     let b = block.saturating_sub(1) as usize;
-    match outcome {
+    match outcome.note() {
         Note::Entered => b,
         Note::Waits | Note::NoRecord => WAITS + b,
     }
 }
 
-pub fn count_record(tally: &mut [u64], block: u32, outcome: Note)
-    ensures { tally.new ≡ count_record tally.old block (note_number outcome) }
+pub fn count_record(tally: &mut [u64], block: u32, outcome: Noting)
+    ensures { tally.new ≡ count_record tally.old block outcome }
 {
     let at = cell(block, outcome);
     let n = count(tally, at).saturating_add(1);
@@ -69,8 +61,8 @@ pub fn note_record(
 ) -> Scalars
     ensures { noted result tally.new trace.new ≡ note_record tally.old trace.old x number block }
 {
-    let outcome = x.note.note();
-    if let Note::NoRecord = outcome {
+    let outcome = x.note;
+    if let Note::NoRecord = outcome.note() {
         return x;
     }
     count_record(tally, block, outcome);

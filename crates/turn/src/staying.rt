@@ -2,7 +2,7 @@
 // and nothing else is done.
 ghost use Rattle.constants.specs.Numbers.{kind_number};
 ghost use Rattle.std.specs.Prelude.{◌≡◌, ◌≢◌, ◌-◌, ◌%◌, ◌<◌, ◌≤◌};
-ghost use Rattle.rows_laws.specs.All.{row_count, standing_field, read};
+ghost use Rattle.rows_laws.specs.All.{Room, row_count, standing_field, read};
 ghost use Rattle.turn_laws.specs.Staying.{back_to, quiet, all_wait, stayed, server_of, short, crowded, lengthened_by, ends_at, comes_with, WhereLine, tied, Lines};
 
 use constants::{Kind, Model};
@@ -12,13 +12,14 @@ use layout::{
 use rows::cells::{get, load, read, set, store};
 use rows::lists::{end_at, first, put, take_first};
 use rows::order::outranks;
-use rows::{Chain, LINKS, NEXT, ROWS, Row, SERIAL, STANDING, Server, Work};
+use rows::{Chain, LINKS, NEXT, ROWS, Row, SERIAL, STANDING, Server};
 use servers::units::{capacity, in_use, server_at};
 use state::behind;
 use values_queues::held_by_all;
 
 // The block to which the first of REL comes back, 0 for none.
-pub fn back_to(work: &Work) -> u32
+pub fn back_to(work: &[u32]) -> u32
+    requires room { Room work.now }
     ensures { result ≡ back_to work.now }
 {
     let Some(k) = first(work, Chain::REL) else {
@@ -65,7 +66,8 @@ pub fn all_wait(
 }
 
 // The first of REL goes back to the WSL.
-pub fn stay(work: &mut Work)
+pub fn stay(work: &mut [u32])
+    requires room { Room work.old }
     ensures { work.new ≡ stayed work.old }
 {
     if let Some(k) = take_first(work, Chain::REL) {
@@ -109,7 +111,8 @@ pub fn lengthen(tables: &[u32; TABLES], tally: &mut [u64; TALLY], block: u32, n:
 }
 
 // Is cell c the last of list v, behind which row k may come?
-fn ends_at(work: &Work, v: Server, c: u32, k: Row) -> bool
+fn ends_at(work: &[u32], v: Server, c: u32, k: Row) -> bool
+    requires room { Room work.now }
     ensures { result ≡ ends_at work.now v c k }
 {
     if c == Chain::queue(v).head() {
@@ -125,7 +128,8 @@ fn ends_at(work: &Work, v: Server, c: u32, k: Row) -> bool
 }
 
 // Does row n come back to that block too, behind one of this standing and serial?
-fn comes_with(work: &Work, n: Row, block: u32, standing: u32, serial: u32) -> bool
+fn comes_with(work: &[u32], n: Row, block: u32, standing: u32, serial: u32) -> bool
+    requires room { Room work.now }
     ensures { n < row_count → result ≡ comes_with work.now n block standing serial }
 {
     if read(work, NEXT, n) != block {
@@ -138,7 +142,8 @@ fn comes_with(work: &Work, n: Row, block: u32, standing: u32, serial: u32) -> bo
 }
 
 // List v ends with row l and m, which is no row; REL begins with what stood behind l.
-fn tie(work: &mut Work, v: Server, l: Row, m: u32)
+fn tie(work: &mut [u32], v: Server, l: Row, m: u32)
+    requires room { Room work.old }
     ensures { work.new ≡ tied work.old v l m }
 {
     let n = get(work, l.link());
@@ -150,7 +155,8 @@ fn tie(work: &mut Work, v: Server, l: Row, m: u32)
 
 // Behind row k, which has gone back to list v, those go back too that come with it, at most so many with it; answers how many. Their links
 // stay, and what else is theirs to change is changed once, behind the last.
-fn line_on(work: &mut Work, v: Server, k: Row, m: u32, block: u32, most: u32) -> u32
+fn line_on(work: &mut [u32], v: Server, k: Row, m: u32, block: u32, most: u32) -> u32
+    requires room { Room work.old }
     requires le_most { 1 ≤ most }
     ensures lines { row_count ≤ m → read work.old standing_field k % 2 ≡ 1
         → WhereLine block v (λ tables. Lines tables block (tied work.old v k m) (result - 1) work.new) }
@@ -178,7 +184,8 @@ fn line_on(work: &mut Work, v: Server, k: Row, m: u32, block: u32, most: u32) ->
 }
 
 // The first of REL goes back to the QL of its ENTER, and those with it that come behind it, under edition 1; answers how many.
-pub fn line_all(tables: &[u32; TABLES], work: &mut Work, block: u32, most: u32) -> u32
+pub fn line_all(tables: &[u32; TABLES], work: &mut [u32], block: u32, most: u32) -> u32
+    requires room { Room work.old }
     ensures lines { block ≢ 0 → Lines tables.now block work.old result work.new }
     ensures few { result ≤ most }
 {

@@ -1,6 +1,7 @@
 // Blocks with terms, which are read with the moving transaction's own parameters: WAITIF, IF and LET. Kept with tables, values and tally
 // apart: who chooses the block lends the tally to ARRIVE and DEPART as well, which write it, so it has no view to hand on.
 ghost use Rattle.std.specs.Prelude.{◌≡◌, ◌<◌};
+ghost use Rattle.rows_laws.specs.All.{Room};
 ghost use Rattle.layout.specs.All.{program_size};
 ghost use Rattle.moves.specs.Motion.{moved};
 ghost use Rattle.values_queues_laws.specs.Comparison.{parameters_at, holds_at, worth_at, set_parameter, branch_rows, assign_rows};
@@ -12,13 +13,14 @@ use evaluation::View;
 use layout::{BRANCH_TARGET, FIRST, SECOND, TABLES, TALLY, number};
 use moves::{IN_ORDER, go_on, go_to, wait_on};
 use rows::cells::{read, write};
-use rows::{Chain, PARAMETER_1, PARAMETER_2, PARAMETER_3, PARAMETER_4, Row, Work};
+use rows::{Chain, PARAMETER_1, PARAMETER_2, PARAMETER_3, PARAMETER_4, Row};
 use state::{Moving, Scalars};
 
 const PARAMETERS: u32 = Model::PARAMETERS as u32;
 
 // The parameters of row k, as bits.
-pub fn parameters_of(work: &Work, k: Row) -> [u32; Model::PARAMETERS]
+pub fn parameters_of(work: &[u32], k: Row) -> [u32; Model::PARAMETERS]
+    requires room { Room work.now }
     ensures { result ≡ parameters_at work.now k }
 {
     let p1 = read(work, PARAMETER_1, k);
@@ -29,7 +31,8 @@ pub fn parameters_of(work: &Work, k: Row) -> [u32; Model::PARAMETERS]
 }
 
 // Does the comparison of the block at `at` hold for row k?
-fn holds(view: &View, work: &Work, k: Row, at: usize) -> bool
+fn holds(view: &View, work: &[u32], k: Row, at: usize) -> bool
+    requires room { Room work.now }
     requires at_lt_program_size { at < program_size }
     ensures { result ≡ holds_at view.now.tables.now view.now.values work.now view.now.tally.now view.now.clock k at }
 {
@@ -38,7 +41,8 @@ fn holds(view: &View, work: &Work, k: Row, at: usize) -> bool
 }
 
 // What the term of the LET at `at` is worth for row k, as bits.
-fn worth(view: &View, work: &Work, k: Row, at: usize) -> u32
+fn worth(view: &View, work: &[u32], k: Row, at: usize) -> u32
+    requires room { Room work.now }
     requires at_lt_program_size { at < program_size }
     ensures { result ≡ worth_at view.now.tables.now view.now.values work.now view.now.tally.now view.now.clock k at }
 {
@@ -47,7 +51,8 @@ fn worth(view: &View, work: &Work, k: Row, at: usize) -> u32
 }
 
 // Parameter i (from 0) of row k gets these bits.
-fn set_parameter(work: &mut Work, k: Row, i: u32, x: u32)
+fn set_parameter(work: &mut [u32], k: Row, i: u32, x: u32)
+    requires room { Room work.old }
     ensures { work.new ≡ set_parameter work.old k i x }
 {
     if i < PARAMETERS {
@@ -59,11 +64,12 @@ fn set_parameter(work: &mut Work, k: Row, i: u32, x: u32)
 pub fn wait_terms(
     tables: &[u32; TABLES],
     values: usize,
-    work: &mut Work,
+    work: &mut [u32],
     tally: &[u64; TALLY],
     x: Moving,
     at: usize,
 ) -> Scalars
+    requires room { Room work.old }
     requires at_lt_program_size { at < program_size }
     ensures { moved result work.new
         ≡ wait_terms_rows tables.now values work.old tally.now x at }
@@ -85,11 +91,12 @@ pub fn wait_terms(
 pub fn branch(
     tables: &[u32; TABLES],
     values: usize,
-    work: &mut Work,
+    work: &mut [u32],
     tally: &[u64; TALLY],
     x: Moving,
     at: usize,
 ) -> Scalars
+    requires room { Room work.old }
     requires at_lt_program_size { at < program_size }
     ensures { moved result work.new ≡ branch_rows tables.now values work.old tally.now x at }
 {
@@ -110,11 +117,12 @@ pub fn branch(
 pub fn assign(
     tables: &[u32; TABLES],
     values: usize,
-    work: &mut Work,
+    work: &mut [u32],
     tally: &[u64; TALLY],
     x: Moving,
     at: usize,
 ) -> Scalars
+    requires room { Room work.old }
     requires at_lt_program_size { at < program_size }
     ensures { moved result work.new ≡ assign_rows tables.now values work.old tally.now x at }
 {

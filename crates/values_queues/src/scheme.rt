@@ -2,7 +2,7 @@
 ghost use Rattle.std.specs.Prelude.{◌≡◌, ◌*◌, ◌≤◌};
 ghost use Rattle.machine.specs.All.{max_blocks};
 ghost use Rattle.layout.specs.All.{block_width, most32};
-ghost use Rattle.rows_laws.specs.All.{wsl, pass_rows, pass_cell};
+ghost use Rattle.rows_laws.specs.All.{Room, wsl, pass_rows, pass_cell};
 ghost use Rattle.values_queues_laws.specs.Scheme.{block_of, leaves_by_lem, ws_scheme};
 ghost use Rattle.values_queues_laws.specs.Sides.{answer_number};
 
@@ -12,11 +12,12 @@ use evaluation::{Relation, View};
 use layout::{BLOCK_WIDTH, TABLES, TALLY, THIRD, number};
 use rows::cells::{read, row_at};
 use rows::wake::pass;
-use rows::{Chain, NEXT, ROWS, Row, Work};
+use rows::{Chain, NEXT, ROWS, Row};
 use state::Scalars;
 
 // Where the block of row k stands in the tables.
-fn block_of(work: &Work, k: Row) -> usize
+fn block_of(work: &[u32], k: Row) -> usize
+    requires room { Room work.now }
     ensures block { result ≡ block_of work.now k }
     ensures most { result ≤ block_width * most32 }
 {
@@ -28,12 +29,13 @@ fn block_of(work: &Work, k: Row) -> usize
 fn leaves(
     view: &View,
     blocks: usize,
-    work: &Work,
+    work: &[u32],
     k: Row,
     at: usize,
     left: Option<u32>,
     right: Option<u32>,
 ) -> bool
+    requires room { Room work.now }
     requires blocks_le_max_blocks { blocks ≤ max_blocks }
     ensures { result
         ≡ leaves_by_lem view.now.tables.now blocks view.now.values view.now.tally.now view.now.clock work.now k at
@@ -55,13 +57,14 @@ fn leaves(
 fn step(
     view: &View,
     blocks: usize,
-    work: &mut Work,
+    work: &mut [u32],
     cell: u32,
     k: Row,
     at: usize,
     left: Option<u32>,
     right: Option<u32>,
 ) -> u32
+    requires room { Room work.old }
     requires blocks_le_max_blocks { blocks ≤ max_blocks }
     ensures cell { result
         ≡ pass_cell (leaves_by_lem view.now.tables.now blocks view.now.values view.now.tally.now view.now.clock work.old k at
@@ -81,14 +84,15 @@ pub fn ws(
     tables: &[u32; TABLES],
     blocks: usize,
     values: usize,
-    work: &mut Work,
+    work: &mut [u32],
     tally: &[u64; TALLY],
     x: Scalars,
 )
+    requires room { Room work.old }
     requires blocks_le_max_blocks { blocks ≤ max_blocks }
     ensures { work.new ≡ ws_scheme tables.now blocks values tally.now x work.old }
 {
-    if let Some(_) = x.end.end() {
+    if x.end.ended() {
         return;
     }
     let view = View {

@@ -1,6 +1,7 @@
 // A side of a comparison, for those that wait on it: one that names no parameter is worth the same to all, and is evaluated once
 // for those that stand at one WAITIF.
 ghost use Rattle.std.specs.Prelude.{◌≡◌, ◌<◌};
+ghost use Rattle.rows_laws.specs.All.{Room};
 ghost use Rattle.machine.specs.All.{get_or};
 ghost use Rattle.layout.specs.All.{program_size, tables_size};
 ghost use Rattle.evaluation.specs.Evaluation.{term_at};
@@ -13,7 +14,7 @@ use constants::Model;
 use evaluation::{Relation, View};
 use layout::{FIRST, NAMES_OWN, RIGHT, TABLES, TALLY, THIRD, Tag, number};
 use rows::cells::read;
-use rows::{PARAMETER_1, Row, Work};
+use rows::{PARAMETER_1, Row};
 
 const PARAMETERS: u32 = Model::PARAMETERS as u32;
 
@@ -68,7 +69,8 @@ pub fn shared(view: &View, seen: usize, known: Option<u32>, at: usize) -> Option
 }
 
 // Parameter i (from 0) of row k, as bits; 0 if there is none.
-fn parameter(work: &Work, k: Row, i: u32) -> u32
+fn parameter(work: &[u32], k: Row, i: u32) -> u32
+    requires room { Room work.now }
     ensures { result ≡ get_or (parameters_at work.now k) i 0 }
 {
     if i >= PARAMETERS {
@@ -78,7 +80,8 @@ fn parameter(work: &Work, k: Row, i: u32) -> u32
 }
 
 // What the term at `at` is worth to row k, with its own parameters.
-fn own(view: &View, work: &Work, k: Row, at: usize) -> i32
+fn own(view: &View, work: &[u32], k: Row, at: usize) -> i32
+    requires room { Room work.now }
     requires at_lt_tables_size { at < tables_size }
     ensures { result ≡ term_at view.now.tables.now view.now.tally.now view.now.values view.now.clock (parameters_at work.now k) at }
 {
@@ -91,7 +94,8 @@ fn own(view: &View, work: &Work, k: Row, at: usize) -> i32
 }
 
 // The same, by an answer for all if there is one.
-pub fn side(view: &View, work: &Work, k: Row, at: usize, answer: Option<u32>) -> i32
+pub fn side(view: &View, work: &[u32], k: Row, at: usize, answer: Option<u32>) -> i32
+    requires room { Room work.now }
     requires at_lt_tables_size { at < tables_size }
     ensures { result ≡ side_by view.now.tables.now view.now.values view.now.tally.now view.now.clock (answer_number answer) work.now k at }
 {
@@ -102,7 +106,8 @@ pub fn side(view: &View, work: &Work, k: Row, at: usize, answer: Option<u32>) ->
 }
 
 // The same in a turn of row k: one that names no parameter is evaluated with none.
-fn worth_to(view: &View, work: &Work, k: Row, at: usize) -> i32
+fn worth_to(view: &View, work: &[u32], k: Row, at: usize) -> i32
+    requires room { Room work.now }
     requires at_lt_tables_size { at < tables_size }
     ensures { result ≡ side_at view.now.tables.now view.now.values view.now.tally.now view.now.clock work.now k at }
 {
@@ -114,7 +119,8 @@ fn worth_to(view: &View, work: &Work, k: Row, at: usize) -> i32
 }
 
 // Does the comparison of the WAITIF at `at` hold for row k?
-pub fn held(view: &View, work: &Work, k: Row, at: usize) -> bool
+pub fn held(view: &View, work: &[u32], k: Row, at: usize) -> bool
+    requires room { Room work.now }
     requires at_lt_program_size { at < program_size }
     ensures { result ≡ held_at view.now.tables.now view.now.values work.now view.now.tally.now view.now.clock k at }
 {

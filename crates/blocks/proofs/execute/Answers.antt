@@ -32,99 +32,99 @@ returns-in_default c =
 pub returns-in-Generate : goal.returns-in-Generate
 unfolding execute by_kind
 returns-in-Generate c =
-    rw (c.by_fields.ensures, ← c.number.ensures, ← (rw c.in-Generate.is at c.in-Some.ensures)) c.generate.ensures
+    rw (c.by_fields.ensures, ← c.number.ensures, ← (rw c.in-Generate.is at c.in-Some.ensures), ← c.afresh.ensures) c.generate.ensures
 
 pub returns-in-Advance : goal.returns-in-Advance
 unfolding execute by_kind
 returns-in-Advance c =
-    rw (c.by_fields-in-Advance.ensures, ← c.number.ensures, ← (rw c.in-Advance.is at c.in-Some.ensures)) c.advance.ensures
+    rw (c.by_fields-in-Advance.ensures, ← c.number.ensures, ← (rw c.in-Advance.is at c.in-Some.ensures), ← c.afresh-in-Advance.ensures) c.advance.ensures
 
 pub returns-in-Terminate : goal.returns-in-Terminate
 unfolding execute by_kind
 returns-in-Terminate c =
-    rw (c.by_fields-in-Terminate.ensures, ← c.number.ensures, ← (rw c.in-Terminate.is at c.in-Some.ensures)) (tallied _ _ _ _ _ c.terminate.ensures refl)
+    rw (c.by_fields-in-Terminate.ensures, ← c.number.ensures, ← (rw c.in-Terminate.is at c.in-Some.ensures), ← c.afresh-in-Terminate.ensures) (tallied _ _ _ _ _ c.terminate.ensures refl)
 
 pub returns-in-Seize : goal.returns-in-Seize
 unfolding execute by_kind
 returns-in-Seize c =
-    rw (c.by_fields-in-Seize.ensures, ← c.number.ensures, ← (rw c.in-Seize.is at c.in-Some.ensures)) c.seize.ensures
+    rw (c.by_fields-in-Seize.ensures, ← c.number.ensures, ← (rw c.in-Seize.is at c.in-Some.ensures), ← c.afresh-in-Seize.ensures) c.seize.ensures
 
 pub returns-in-Release : goal.returns-in-Release
 unfolding execute by_kind
 returns-in-Release c =
-    rw (c.by_fields-in-Release.ensures, ← c.number.ensures, ← (rw c.in-Release.is at c.in-Some.ensures)) c.release.ensures
+    rw (c.by_fields-in-Release.ensures, ← c.number.ensures, ← (rw c.in-Release.is at c.in-Some.ensures), ← c.afresh-in-Release.ensures) c.release.ensures
 
 pub returns-in-Enter : goal.returns-in-Enter
 unfolding execute by_kind
 returns-in-Enter c =
-    rw (c.by_fields-in-Enter.ensures, ← c.number.ensures, ← (rw c.in-Enter.is at c.in-Some.ensures)) c.enter.ensures
+    rw (c.by_fields-in-Enter.ensures, ← c.number.ensures, ← (rw c.in-Enter.is at c.in-Some.ensures), ← c.afresh-in-Enter.ensures) c.enter.ensures
 
 pub returns-in-Leave : goal.returns-in-Leave
 unfolding execute by_kind
 returns-in-Leave c =
-    rw (c.by_fields-in-Leave.ensures, ← c.number.ensures, ← (rw c.in-Leave.is at c.in-Some.ensures)) c.leave.ensures
+    rw (c.by_fields-in-Leave.ensures, ← c.number.ensures, ← (rw c.in-Leave.is at c.in-Some.ensures), ← c.afresh-in-Leave.ensures) c.leave.ensures
 
 pub returns-in-WaitServer : goal.returns-in-WaitServer
 unfolding execute by_kind
 returns-in-WaitServer c =
-    rw (c.by_fields-in-WaitServer.ensures, ← c.number.ensures, ← (rw c.in-WaitServer.is at c.in-Some.ensures)) (tallied _ _ _ _ _ c.wait_server.ensures refl)
+    rw (c.by_fields-in-WaitServer.ensures, ← c.number.ensures, ← (rw c.in-WaitServer.is at c.in-Some.ensures), ← c.afresh-in-WaitServer.ensures) (tallied _ _ _ _ _ c.wait_server.ensures refl)
 
 pub returns-in-WaitTerms : goal.returns-in-WaitTerms
 unfolding execute by_kind later
 returns-in-WaitTerms c =
-    rw (c.by_fields-in-WaitTerms.ensures, ← c.number.ensures, ← (rw c.in-WaitTerms.is at c.in-Some.ensures)) (tallied _ _ _ _ _ c.wait_terms.ensures refl)
+    rw (c.by_fields-in-WaitTerms.ensures, ← c.number.ensures, ← (rw c.in-WaitTerms.is at c.in-Some.ensures), ← c.afresh-in-WaitTerms.ensures) (tallied _ _ _ _ _ c.wait_terms.ensures refl)
 
 pub returns-in-Branch : goal.returns-in-Branch
 unfolding execute by_kind later
 returns-in-Branch c =
-    rw (c.by_fields-in-Branch.ensures, ← c.number.ensures, ← (rw c.in-Branch.is at c.in-Some.ensures)) (tallied _ _ _ _ _ c.branch-tables.ensures refl)
+    rw (c.by_fields-in-Branch.ensures, ← c.number.ensures, ← (rw c.in-Branch.is at c.in-Some.ensures), ← c.afresh-in-Branch.ensures) (tallied _ _ _ _ _ c.branch-tables.ensures refl)
 
 pub returns-in-Goto : goal.returns-in-Goto
 unfolding execute by_kind later
 returns-in-Goto c =
-    rw (c.by_fields-in-Goto.ensures, ← c.number.ensures, ← (rw c.in-Goto.is at c.in-Some.ensures)) (tallied _ _ _ _ _ c.goto.ensures refl)
+    rw (c.by_fields-in-Goto.ensures, ← c.number.ensures, ← (rw c.in-Goto.is at c.in-Some.ensures), ← c.afresh-in-Goto.ensures) (tallied _ _ _ _ _ c.goto.ensures refl)
 
 pub returns-in-Assign : goal.returns-in-Assign
 unfolding execute by_kind later
 returns-in-Assign c =
-    rw (c.by_fields-in-Assign.ensures, ← c.number.ensures, ← (rw c.in-Assign.is at c.in-Some.ensures)) (tallied _ _ _ _ _ c.assign.ensures refl)
+    rw (c.by_fields-in-Assign.ensures, ← c.number.ensures, ← (rw c.in-Assign.is at c.in-Some.ensures), ← c.afresh-in-Assign.ensures) (tallied _ _ _ _ _ c.assign.ensures refl)
 
 pub returns-in-Priority : goal.returns-in-Priority
 unfolding execute by_kind later
 returns-in-Priority c =
-    rw (c.by_fields-in-Priority.ensures, ← c.number.ensures, ← (rw c.in-Priority.is at c.in-Some.ensures)) (tallied _ _ _ _ _ c.priority.ensures refl)
+    rw (c.by_fields-in-Priority.ensures, ← c.number.ensures, ← (rw c.in-Priority.is at c.in-Some.ensures), ← c.afresh-in-Priority.ensures) (tallied _ _ _ _ _ c.priority.ensures refl)
 
 pub returns-in-Split : goal.returns-in-Split
 unfolding execute by_kind later
 returns-in-Split c =
-    rw (c.by_fields-in-Split.ensures, ← c.number.ensures, ← (rw c.in-Split.is at c.in-Some.ensures)) (tallied _ _ _ _ _ c.split.ensures refl)
+    rw (c.by_fields-in-Split.ensures, ← c.number.ensures, ← (rw c.in-Split.is at c.in-Some.ensures), ← c.afresh-in-Split.ensures) (tallied _ _ _ _ _ c.split.ensures refl)
 
 pub returns-in-Arrive : goal.returns-in-Arrive
 unfolding execute by_kind later
 returns-in-Arrive c =
-    rw (c.by_fields-in-Arrive.ensures, ← c.number.ensures, ← (rw c.in-Arrive.is at c.in-Some.ensures)) c.arrive.ensures
+    rw (c.by_fields-in-Arrive.ensures, ← c.number.ensures, ← (rw c.in-Arrive.is at c.in-Some.ensures), ← c.afresh-in-Arrive.ensures) c.arrive.ensures
 
 pub returns-in-Depart : goal.returns-in-Depart
 unfolding execute by_kind later
 returns-in-Depart c =
-    rw (c.by_fields-in-Depart.ensures, ← c.number.ensures, ← (rw c.in-Depart.is at c.in-Some.ensures)) c.depart.ensures
+    rw (c.by_fields-in-Depart.ensures, ← c.number.ensures, ← (rw c.in-Depart.is at c.in-Some.ensures), ← c.afresh-in-Depart.ensures) c.depart.ensures
 
 pub returns-in-JoinedWait : goal.returns-in-JoinedWait
 unfolding execute by_kind later
 returns-in-JoinedWait c =
-    rw (c.by_fields-in-JoinedWait.ensures, ← c.number.ensures, ← (rw c.in-JoinedWait.is at c.in-Some.ensures)) (tallied _ _ _ _ _ c.wait_server-in-JoinedWait.ensures refl)
+    rw (c.by_fields-in-JoinedWait.ensures, ← c.number.ensures, ← (rw c.in-JoinedWait.is at c.in-Some.ensures), ← c.afresh-in-JoinedWait.ensures) (tallied _ _ _ _ _ c.wait_server-in-JoinedWait.ensures refl)
 
 pub returns-in-Assemble : goal.returns-in-Assemble
 unfolding execute by_kind later
 returns-in-Assemble c =
-    rw (c.by_fields-in-Assemble.ensures, ← c.number.ensures, ← (rw c.in-Assemble.is at c.in-Some.ensures)) (tallied _ _ _ _ _ c.assemble.ensures refl)
+    rw (c.by_fields-in-Assemble.ensures, ← c.number.ensures, ← (rw c.in-Assemble.is at c.in-Some.ensures), ← c.afresh-in-Assemble.ensures) (tallied _ _ _ _ _ c.assemble.ensures refl)
 
 pub returns-in-Preempt : goal.returns-in-Preempt
 unfolding execute by_kind later
 returns-in-Preempt c =
-    rw (c.by_fields-in-Preempt.ensures, ← c.number.ensures, ← (rw c.in-Preempt.is at c.in-Some.ensures)) c.preempt.ensures
+    rw (c.by_fields-in-Preempt.ensures, ← c.number.ensures, ← (rw c.in-Preempt.is at c.in-Some.ensures), ← c.afresh-in-Preempt.ensures) c.preempt.ensures
 
 pub returns-in-Return : goal.returns-in-Return
 unfolding execute by_kind later
 returns-in-Return c =
-    rw (c.by_fields-in-Return.ensures, ← c.number.ensures, ← (rw c.in-Return.is at c.in-Some.ensures)) c.give_back.ensures
+    rw (c.by_fields-in-Return.ensures, ← c.number.ensures, ← (rw c.in-Return.is at c.in-Some.ensures), ← c.afresh-in-Return.ensures) c.give_back.ensures

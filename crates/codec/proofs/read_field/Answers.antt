@@ -1,21 +1,22 @@
 -- `codec::read_field` meets its contract: the answer of `read_number`, then the two tests of the range.
-use Rattle.machine.specs.All.{◌≡◌, rules}
+use Rattle.machine.specs.All.{◌≡◌, ◌+◌, suc, arith, rules}
 use Rattle.std.specs.Prelude.{Some}
-use Rattle.codec.specs.{parsed_of}
-use Rattle.codec.proofs.Answers.{field-unread, field-low, field-high, field-within, next_refusal}
+use Rattle.codec.specs.{numbered}
+use Rattle.codec.proofs.Answers.{field-unread, field-low, field-high, field-within}
 use Rattle.codec.proofs.read_field.Goals as goal
 use Rattle.codec.proofs.read_field.Goals.{then-v-lo-via-then-v-lo, then-v-lo-via-else-v-lo+then-hi-v}
 
 pub returns-in_default-clause-by_index : goal.returns-in_default-clause-by_index
-unfolding parsed_of
+unfolding numbered
 returns-in_default-clause-by_index c = λ numbers mentions.
-    rw c.malformed.ensures (field-unread _ _ _ _ _ _ numbers mentions _ c.read_number.ensures.result_value (search rules))
+    field-unread _ _ _ _ _ _ numbers mentions _ c.read_number.ensures.result_value (search rules)
 
 pub returns-then-v-lo-clause-by_index : goal.returns-then-v-lo-clause-by_index
-unfolding parsed_of
+unfolding numbered
 returns-then-v-lo-clause-by_index c = λ numbers mentions.
     let read : c.read_number.result ≡ Some (c.in-Some.v, c.in-Some.next) = c.in-Some.is in
-    rw (c.out_of_range.ensures, next_refusal)
+    let after : c.args.code + 1 ≡ suc c.args.code = omega arith in
+    rw after
     (elim c.then-v-lo.branch [
       | then-v-lo-via-then-v-lo w ↦ field-low _ _ _ _ _ _ numbers mentions _ c.read_number.ensures.result_value _ _ read w.if-v-lo.true
       | then-v-lo-via-else-v-lo+then-hi-v w ↦
@@ -23,7 +24,7 @@ returns-then-v-lo-clause-by_index c = λ numbers mentions.
     ])
 
 pub returns-clause-by_index : goal.returns-clause-by_index
-unfolding parsed_of
+unfolding numbered
 returns-clause-by_index c = λ numbers mentions.
     let read : c.read_number.result ≡ Some (c.in-Some.v, c.in-Some.next) = c.in-Some.is in
     let inside = c.read_number.ensures.inside _ _ read in

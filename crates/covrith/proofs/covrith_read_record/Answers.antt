@@ -1,8 +1,15 @@
 -- `covrith_read_record` meets its contract: the answer of `read_record`, case by case.
-use Rattle.machine.specs.All.{◌∙◌, ap}
+use Rattle.machine.specs.All.{◌∙◌, ap, refl}
 use Rattle.std.specs.Prelude.{Ok}
+use Rattle.trace.proofs.Reader.{past_end}
 use Rattle.covrith.proofs.Records.{read-taken, read-refused, read-no_more}
 use Rattle.covrith.proofs.covrith_read_record.Goals as goal
+
+pub returns-then-trace-position-clause-value : goal.returns-then-trace-position-clause-value
+returns-then-trace-position-clause-value c = (read-no_more (past_end _ _ c.if-trace-position.true) c.args.numbers.now refl).0
+
+pub returns-then-trace-position-clause-numbers_after : goal.returns-then-trace-position-clause-numbers_after
+returns-then-trace-position-clause-numbers_after c = (read-no_more (past_end _ _ c.if-trace-position.true) c.args.numbers.now refl).1
 
 pub returns-in-Ok-Some-clause-value : goal.returns-in-Ok-Some-clause-value
 returns-in-Ok-Some-clause-value c = (read-taken c.read_record.ensures c.args.numbers.now _ _ (c.in-Ok-Some.is ∙ ap Ok c.in-Ok-Some.field-0-is)).0

@@ -15,14 +15,17 @@ pub slice_bounds-room-end : goal.slice_bounds-room-end
 slice_bounds-room-end c =
     (copy-room _ _ c.args.out.now _ _ c.model-bytes.ensures (length-replicate {A = ℕ} kept_room 0) c.requires c.if-out-bytes.false).0
 
-pub slice_bounds-copy_from_slice-end-3 : goal.slice_bounds-copy_from_slice-end-3
-slice_bounds-copy_from_slice-end-3 c =
+pub slice_bounds-copy-end : goal.slice_bounds-copy-end
+slice_bounds-copy-end c =
     let room = copy-room _ _ c.args.out.now _ _ c.model-bytes.ensures (length-replicate {A = ℕ} kept_room 0) c.requires
     c.if-out-bytes.false in
     sym (length-take-le _ c.model-bytes.new.out room.0)
 
-pub copy_from_slice-requires : goal.copy_from_slice-requires
-copy_from_slice-requires c =
+pub slice_bounds-copy-end-3 : goal.slice_bounds-copy-end-3
+slice_bounds-copy-end-3 c = sym (length-take-le _ c.args.out.now c.if-out-bytes.false)
+
+pub copy-requires : goal.copy-requires
+copy-requires c =
     let room = copy-room _ _ c.args.out.now _ _ c.model-bytes.ensures (length-replicate {A = ℕ} kept_room 0) c.requires
     c.if-out-bytes.false in
     length-take-le _ c.args.out.now c.if-out-bytes.false ∙ sym (length-take-le _ c.model-bytes.new.out room.0)
@@ -35,5 +38,5 @@ returns c =
     c.model-bytes.ensures (length-replicate {A = ℕ} kept_room 0)
     c.requires _
     c.if-out-bytes.false
-    (ap (λ l. l ++ drop c.model-bytes.result c.args.out.now) c.copy_from_slice.ensures.after) in
+    (ap (λ l. l ++ drop c.model-bytes.result c.args.out.now) c.copy.ensures) in
     record { value = both.0; stored = both.1 }

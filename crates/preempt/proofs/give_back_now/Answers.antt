@@ -16,6 +16,7 @@ returns c =
     let none = rw c.interrupted.ensures at c.in_default.ensures in
     rw (
       c.with_outcome.ensures,
+      c.of.ensures,
       same,
       le-ltb _ 1024 none,
       ← c.in_use.ensures,

@@ -16,6 +16,7 @@ returns c =
     let number = rw c.row-k.ensures at c.read-number.ensures in
     rw (
       c.with_outcome.ensures,
+      c.of.ensures,
       same,
       ← c.server_at-v.ensures,
       ← number,

@@ -16,6 +16,7 @@ returns c =
     let on = rw c.scalars.ensures.same at c.resume_on-y.ensures in
     rw (
       c.with_outcome.ensures,
+      c.of.ensures,
       ← c.in_use-units.ensures,
       ← c.capacity-all.ensures.capacity,
       ← c.read-who.ensures,

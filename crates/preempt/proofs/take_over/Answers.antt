@@ -11,6 +11,7 @@ returns c =
     let held = c.hold_units.ensures c.args.x (sym c.row-k.ensures) (sym (ap (λ x. x.clock) same)) in
     rw (
       c.with_outcome.ensures,
+      c.of.ensures,
       same,
       ← c.in_use-units.ensures,
       ← c.capacity-all.ensures.capacity,

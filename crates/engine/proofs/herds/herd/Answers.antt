@@ -1,16 +1,7 @@
 -- `herd` meets its contract: no turn, or those of all who come to the block of the first of REL.
-use Rattle.machine.specs.All.{◌∙◌, sym, ap, arith}
-use Rattle.state.specs.Notes.{note_number}
+use Rattle.machine.specs.All.{◌∙◌, sym, arith}
 use Rattle.engine_laws.proofs.Herding.{onward-none}
 use Rattle.engine.proofs.herds.herd.Goals as goal
-
-pub returns-in_default : goal.returns-in_default
-returns-in_default c =
-    record {
-      by_index = λ tape trace. onward-none _ _ tape trace _ _ _ _ _ _;
-      least = omega arith;
-      most = omega arith;
-    }
 
 pub returns-then-number : goal.returns-then-number
 returns-then-number c =
@@ -20,10 +11,18 @@ returns-then-number c =
       most = omega arith;
     }
 
+pub returns-then-number-2 : goal.returns-then-number-2
+returns-then-number-2 c =
+    record {
+      by_index = λ tape trace. onward-none _ _ tape trace _ _ _ _ _ _;
+      least = omega arith;
+      most = omega arith;
+    }
+
 pub returns-then-quiet : goal.returns-then-quiet
 returns-then-quiet c =
     let call = c.queue_all in record {
-      by_index = λ tape trace. call.ensures.where_enter _ tape trace (sym c.number.ensures ∙ c.if-number.false ∙ c.number-2.ensures) (sym c.note.ensures ∙ ap note_number c.in-NoRecord.is)
+      by_index = λ tape trace. call.ensures.where_enter _ tape trace (sym c.number-2.ensures ∙ c.if-number-2.false ∙ c.number-3.ensures) (sym c.number.ensures ∙ c.if-number.false)
           (sym c.quiet.ensures ∙ c.if-quiet.true);
       least = call.ensures.least;
       most = call.ensures.most;
@@ -40,7 +39,7 @@ returns-then-not-all_wait c =
 pub returns : goal.returns
 returns c =
     let call = c.stay_all in record {
-      by_index = λ tape trace. call.ensures.where_all_wait _ _ tape _ trace (sym c.number.ensures ∙ c.if-number.false ∙ c.number-2.ensures) (sym c.note.ensures ∙ ap note_number c.in-NoRecord.is)
+      by_index = λ tape trace. call.ensures.where_all_wait _ _ tape _ trace (sym c.number-2.ensures ∙ c.if-number-2.false ∙ c.number-3.ensures) (sym c.number.ensures ∙ c.if-number.false)
           (sym c.all_wait.ensures ∙ c.if-not-all_wait.false);
       least = call.ensures.least;
       most = call.ensures.most;

@@ -10,7 +10,7 @@ abbrev pub invariant-loop-plain : goal.invariant-loop-plain
 invariant-loop-plain l =
     (turns_from l.model l.tables l.tape l.budget (length l.initial.trace) l.left (traced (rows_of l.y l.work l.tally) l.trace)
     ≡ turns_from l.model l.tables l.tape l.budget (length l.initial.trace) l.initial.left (traced (rows_of l.initial.y l.initial.work l.initial.tally) l.initial.trace))
-    × (length l.trace ≡ length l.initial.trace) × (l.left ≤ l.initial.left) × (l.plain ≡ false → l.left < l.initial.left)
+    × (length l.work ≡ length l.initial.work) × (length l.trace ≡ length l.initial.trace) × (l.left ≤ l.initial.left) × (l.plain ≡ false → l.left < l.initial.left)
 
 abbrev pub decreases-loop-plain : goal.decreases-loop-plain
 decreases-loop-plain l = l.left
@@ -19,7 +19,7 @@ abbrev pub invariant-loop-left : goal.invariant-loop-left
 invariant-loop-left l =
     (turns_from l.model l.tables l.tape l.budget (length l.initial.trace) l.left (traced (rows_of l.y l.work l.tally) l.trace)
     ≡ turns_from l.model l.tables l.tape l.budget (length l.initial.trace) l.initial.left (traced (rows_of l.initial.y l.initial.work l.initial.tally) l.initial.trace))
-    × (length l.trace ≡ length l.initial.trace)
+    × (length l.work ≡ length l.initial.work) × (length l.trace ≡ length l.initial.trace)
 
 abbrev pub decreases-loop-left : goal.decreases-loop-left
 decreases-loop-left l = l.left

@@ -21,6 +21,7 @@ returns c =
     let same = c.scalars-s.ensures.same in
     rw (
       c.with_outcome.ensures,
+      c.of.ensures,
       same,
       ← c.server_at-v.ensures,
       ← c.number-b.ensures,

@@ -7,5 +7,5 @@ pub returns : goal.returns
 unfolding enter_rows
 returns c =
     let same = c.scalars-s.ensures.same in
-    rw (c.with_outcome.ensures, same, ← c.server_at-v.ensures, ← c.number-b.ensures)
+    rw (c.with_outcome.ensures, c.of.ensures, same, ← c.server_at-v.ensures, ← c.number-b.ensures)
     (c.take_units-outcome.ensures _ (sym c.row.ensures) (sym (ap (λ x. x.serial) same)) (sym (ap (λ x. x.clock) same)))

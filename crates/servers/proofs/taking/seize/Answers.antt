@@ -8,5 +8,5 @@ unfolding seize_rows
 returns c =
     let same = c.scalars-s.ensures.same in
     let number = rw c.row-k.ensures at c.read-number.ensures in
-    rw (c.with_outcome.ensures, same, ← c.server_at-v.ensures, ← number)
+    rw (c.with_outcome.ensures, c.of.ensures, same, ← c.server_at-v.ensures, ← number)
     (c.take_units-outcome.ensures _ (sym c.row-k.ensures) (sym (ap (λ x. x.serial) same)) (sym (ap (λ x. x.clock) same)))

@@ -14,8 +14,8 @@ pub returns-in-Ok : goal.returns-in-Ok
 returns-in-Ok c =
     let w = c.write_record in
     let a = c.args in
-    rw (← c.outcome_number.ensures)
-    (appends a.trace.now w.new.rest a.used a.clock a.number a.block c.outcome_number.result
+    rw (← c.number.ensures)
+    (appends a.trace.now w.new.rest a.used a.clock a.number a.block c.number.result
     c.if-trace-used.false _ _ _ (rest-is a.trace.now a.used)
     (ap (writing_of w.new.rest) (sym c.in-Ok.is) ∙ w.ensures.result_after) w.ensures.bytes
     (w.ensures.count _ c.in-Ok.is).0)
@@ -24,7 +24,7 @@ pub returns-in-Err : goal.returns-in-Err
 returns-in-Err c =
     let w = c.write_record in
     let a = c.args in
-    rw (← c.outcome_number.ensures)
-    (refuses a.trace.now w.new.rest a.used a.clock a.number a.block c.outcome_number.result
+    rw (← c.number.ensures)
+    (refuses a.trace.now w.new.rest a.used a.clock a.number a.block c.number.result
     c.if-trace-used.false _ _ (rest-is a.trace.now a.used)
     (ap (writing_of w.new.rest) (sym c.in-Err.is) ∙ w.ensures.result_after) w.ensures.bytes)

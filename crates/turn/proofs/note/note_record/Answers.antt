@@ -15,10 +15,9 @@ low NoRecord d = absurd (d refl)
 
 pub returns-in-NoRecord : goal.returns-in-NoRecord
 unfolding note_record
-returns-in-NoRecord c = rw (le-ltb c.args.x.note 2 (omega (arith, c.in-NoRecord.ensures)))
+returns-in-NoRecord c = rw (le-ltb c.args.x.note 2 (omega (arith, rw c.in-NoRecord.is at c.note.ensures)))
 
 pub returns : goal.returns
 returns c =
-    let is = c.note-outcome.ensures in
-    notes _ _ _ _ _ _ _ _ (rw is at (low _ c.in_default.not-NoRecord)) (rw is at c.count_record.ensures)
-    (rw is at c.append_record-used.ensures)
+    notes _ _ _ _ _ _ _ _ (omega (arith, low _ c.in_default.not-NoRecord, c.note.ensures)) c.count_record.ensures
+    c.append_record-used.ensures

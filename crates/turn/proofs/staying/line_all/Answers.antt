@@ -28,7 +28,7 @@ returns-clause-lines c =
     let v = c.number-3.ensures in
     let first : c.set.new.w ≡ store (store c.args.work.now c.get-c.result c.in-Some.k) (place c.in-Some.k) c.server_of-v.result =
     cc (c.set.ensures, c.store.ensures, c.place.ensures.cell, c.number-2.ensures.same, v.same) in
-    λ there. lines-all (omega (arith, c.told-work)) (sym c.server_of-v.ensures) (rw v.same at v.small)
+    λ there. lines-all c.requires.room (sym c.server_of-v.ensures) (rw v.same at v.small)
     (sym c.number.ensures ∙ c.if-number-ne1.false) (sym c.back_to.ensures ∙ c.if-back_to-block.false) c.in-Some.ensures.0
     (rw (c.tail.ensures.cell, c.queue.ensures) at (sym c.get-c.ensures)) (sym c.ends_at.ensures ∙ c.if-not-ends_at.false)
     (sym c.load-m.ensures) c.if-m-lt-ROWS.false first call.lines call.some there

@@ -6,7 +6,7 @@ use Rattle.turn.proofs.staying.line_on.Goals as goal
 
 pub loop-i-init : goal.loop-i-init
 loop-i-init c =
-    rw (c.read-serial.ensures, c.read-standing.ensures) (lining-none (omega (arith, c.told-work)) c.requires.le_most)
+    rw (c.read-serial.ensures, c.read-standing.ensures) (lining-none c.requires.room c.requires.le_most)
 
 pub returns-in_default : goal.returns-in_default
 returns-in_default c =

@@ -1,15 +1,15 @@
 -- `ws` meets its contract. The invariant: the rest of the walk from here is the whole walk, and the answers for all are those of the
 -- block that was seen last.
-use Rattle.machine.specs.All.{sym, ◌∙◌, arith}
+use Rattle.machine.specs.All.{sym, ◌∙◌, arith, eq-eqb, ne_eqb}
 use Rattle.rows_laws.proofs.Steps.{wake_all-end, wake_all-stop, wake_all-next}
-use Rattle.state.proofs.Ends.{end_eqb}
+use Rattle.state.proofs.Ends.{ended, goes-on}
 use Rattle.values_queues_laws.specs.{Scheme.ws_scheme}
 use Rattle.values_queues_laws.proofs.Sharing.{leaves_by, for-all-past}
 use Rattle.values_queues.proofs.scheme.ws.Goals as goal
 
-pub returns-in-Some : goal.returns-in-Some
+pub returns-then-ended : goal.returns-then-ended
 unfolding ws_scheme
-returns-in-Some c = rw (← c.in-Some.ensures, end_eqb c.in-Some.field-0)
+returns-then-ended c = rw (ne_eqb _ 0 (ended _ (sym c.ended.ensures ∙ c.if-ended.true)))
 
 pub loop-init : goal.loop-init
 loop-init c = record {
@@ -19,10 +19,10 @@ loop-init c = record {
   right = for-all-past (omega arith);
 }
 
-pub returns-in_default-row_at : goal.returns-in_default-row_at
+pub returns-in_default : goal.returns-in_default
 unfolding ws_scheme
-returns-in_default-row_at c =
-    rw (← c.in_default.ensures) (sym (wake_all-stop _ _ _ _ _ (omega arith)) ∙ c.loop.invariant.rest)
+returns-in_default c =
+    rw (eq-eqb _ 0 (goes-on _ (sym c.ended.ensures ∙ c.if-ended.false))) (sym (wake_all-stop _ _ _ _ _ (omega arith)) ∙ c.loop.invariant.rest)
 
 pub loop-preserved : goal.loop-preserved
 loop-preserved c =
@@ -34,7 +34,7 @@ loop-preserved c =
             c.step-cell.ensures.rows,
             c.step-cell.ensures.cell,
             leaves_by _ _ _ _ _ _ c.block_of-at.ensures.block left right,
-            ← c.in-Some-row_at.ensures.0,
+            ← c.in-Some.ensures.0,
           )
           (sym (wake_all-next _ _ _ _ _ _ (omega arith) (omega arith)) ∙ c.loop.invariant.rest);
       low = c.block_of-at.ensures.most;
@@ -44,4 +44,4 @@ loop-preserved c =
 
 pub returns : goal.returns
 unfolding ws_scheme
-returns c = rw (← c.in_default.ensures) (sym (wake_all-end _ _ _ _ _ (omega arith)) ∙ c.loop.invariant.rest)
+returns c = rw (eq-eqb _ 0 (goes-on _ (sym c.ended.ensures ∙ c.if-ended.false))) (sym (wake_all-end _ _ _ _ _ (omega arith)) ∙ c.loop.invariant.rest)
