@@ -1,1 +1,2 @@
 pub mod ExecuteLaws
+pub mod Stated

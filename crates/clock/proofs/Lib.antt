@@ -4,3 +4,4 @@ pub mod Population
 pub mod ReadyLaws
 pub mod ClockLaws
 pub mod TakingLaws
+pub mod Stated

@@ -13,3 +13,4 @@ pub mod PriorityLaw
 pub mod SplitLaw
 pub mod Kin
 pub mod GatherLaw
+pub mod Stated

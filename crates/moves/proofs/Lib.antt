@@ -1,3 +1,4 @@
 pub mod BeforeLaws
 pub mod MotionLaws
 pub mod Before
+pub mod Stated

@@ -1,1 +1,2 @@
 pub mod PreemptLaws
+pub mod Stated

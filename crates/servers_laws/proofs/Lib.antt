@@ -10,3 +10,4 @@ pub mod Staying
 pub mod TakingLaws
 pub mod Tallies
 pub mod WaitingLaws
+pub mod Stated

@@ -2,3 +2,4 @@ pub mod AtStart
 pub mod BlockSteps
 pub mod Laws
 pub mod Tally
+pub mod Stated

@@ -4,7 +4,7 @@ ghost use Rattle.std.specs.Prelude.{◌≡◌, ◌<◌, ◌≤◌, MatchOption};
 ghost use Rattle.constants.specs.Numbers.{end_number};
 ghost use Rattle.rows_laws.specs.All.{row_count, IsRow};
 ghost use Rattle.machine.specs.All.{eqb, min, not};
-ghost use Rattle.state.specs.Notes.{note_number};
+ghost use Rattle.state.specs.Notes.{note_number, end_or_0, end_of_number, NoneOrEnd};
 
 use constants::End;
 use rows::{ROWS, Row};
@@ -143,6 +143,28 @@ impl Stopped {
         ensures { result ≡ end_number end }
     {
         Stopped { end: end.number() }
+    }
+
+    // The end of that number: none for 0, and for a number that is no end's.
+    pub fn end(self) -> Option<End>
+        ensures value { result ≡ end_of_number self }
+        ensures back { NoneOrEnd self → end_or_0 result ≡ self }
+    {
+        match self.end {
+            1 => Some(End::Dry),
+            2 => Some(End::Counted),
+            3 => Some(End::Budget),
+            4 => Some(End::TraceFull),
+            21 => Some(End::NoPlace),
+            22 => Some(End::TooLate),
+            23 => Some(End::NoTime),
+            24 => Some(End::NotInUse),
+            25 => Some(End::NoContent),
+            26 => Some(End::WornOut),
+            27 => Some(End::NotHolder),
+            28 => Some(End::Holding),
+            _ => None,
+        }
     }
 
     // Is there an end?

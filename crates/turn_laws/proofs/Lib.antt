@@ -7,3 +7,4 @@ pub mod Runs
 pub mod Staying
 pub mod Lining
 pub mod Lengthening
+pub mod Stated

@@ -5,3 +5,4 @@ pub mod QueueLaws
 pub mod SchemeLaws
 pub mod Sees
 pub mod Sharing
+pub mod Stated
